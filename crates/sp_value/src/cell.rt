@@ -17,19 +17,17 @@ pub enum Cell {
     Object(Members),
 }
 
-impl Cell {
-    #[cycle(copy)]
-    pub fn copy(&self, alloc: Global) -> Result<Cell, Memory>
-        ensures { IfOk result (λ c. c ≡ self.now) }
-    {
-        match self {
-            Cell::Null => Ok(Cell::Null),
-            Cell::Bool(b) => Ok(Cell::Bool(*b)),
-            Cell::Int(n) => Ok(Cell::Int(*n)),
-            Cell::Text(t) => Ok(Cell::Text(t.copy(alloc)?)),
-            Cell::List(cells) => Ok(Cell::List(copy_cells(alloc, cells.as_slice())?)),
-            Cell::Object(members) => Ok(Cell::Object(copy_members(alloc, members)?)),
-        }
+#[cycle(copy)]
+pub(crate) fn copy_cell(alloc: Global, cell: &Cell) -> Result<Cell, Memory>
+    ensures { IfOk result (λ c. c ≡ cell.now) }
+{
+    match cell {
+        Cell::Null => Ok(Cell::Null),
+        Cell::Bool(b) => Ok(Cell::Bool(*b)),
+        Cell::Int(n) => Ok(Cell::Int(*n)),
+        Cell::Text(t) => Ok(Cell::Text(Text::from_str(alloc, t.as_str())?)),
+        Cell::List(cells) => Ok(Cell::List(copy_cells(alloc, cells.as_slice())?)),
+        Cell::Object(members) => Ok(Cell::Object(copy_members(alloc, members)?)),
     }
 }
 
@@ -39,7 +37,7 @@ fn copy_cells(alloc: Global, cells: &[Cell]) -> Result<Items<Cell>, Memory>
 {
     let mut copies = Items::new(alloc);
     for cell in cells {
-        let Ok(()) = copies.push(cell.copy(alloc)?) else {
+        let Ok(()) = copies.push(copy_cell(alloc, cell)?) else {
             return Err(Memory);
         };
     }
@@ -48,7 +46,7 @@ fn copy_cells(alloc: Global, cells: &[Cell]) -> Result<Items<Cell>, Memory>
 
 #[cycle(copy)]
 #[tactic(auto, using(crate::proofs::Zips::zip_parts, crate::proofs::Zips::length_parts))]
-fn copy_members(alloc: Global, members: &Members<Cell>) -> Result<Members<Cell>, Memory>
+pub(crate) fn copy_members(alloc: Global, members: &Members<Cell>) -> Result<Members<Cell>, Memory>
     ensures { IfOk result (λ ms. ms ≡ members.now) }
 {
     let names = copy_names(alloc, members.names())?;
@@ -61,7 +59,7 @@ fn copy_names(alloc: Global, names: &[Text]) -> Result<Items<Text>, Memory>
 {
     let mut copies = Items::new(alloc);
     for name in names {
-        let Ok(()) = copies.push(name.copy(alloc)?) else {
+        let Ok(()) = copies.push(Text::from_str(alloc, name.as_str())?) else {
             return Err(Memory);
         };
     }
