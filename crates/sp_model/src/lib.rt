@@ -3,6 +3,7 @@
 
 mod call;
 mod declaration;
+mod names;
 mod scan;
 mod settings;
 
@@ -11,5 +12,6 @@ pub use declaration::{
     AccessDecl, Backoff, ColumnDecl, Declaration, FunctionDecl, GetDecl, KeyDecl, ListDecl,
     Matching, Need, Patterns, Retry, Rule, TableDecl,
 };
+pub use names::{is_connection_name, is_name, is_word};
 pub use scan::{Access, Cause, Mark, ScanNote, ScanNotes, ScanRequest, Seat};
 pub use settings::{Connection, Limiter, Options, Pair, Settings};
