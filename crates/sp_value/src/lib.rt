@@ -2,9 +2,13 @@
 #![tactic(auto)]
 
 mod cell;
+mod kind;
+mod lists;
 mod members;
 mod text;
 
-pub use cell::Cell;
+pub use cell::{Cell, copy_cells};
+pub use kind::Kind;
+pub use lists::{Cells, Kinds, Rows, Texts, copy_kinds, copy_rows, copy_texts};
 pub use members::Members;
 pub use text::{Memory, Text};
