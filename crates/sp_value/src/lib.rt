@@ -6,9 +6,11 @@ mod kind;
 mod lists;
 mod members;
 mod text;
+mod truth;
 
 pub use cell::{Cell, copy_cells};
 pub use kind::Kind;
 pub use lists::{Cells, Kinds, Rows, Texts, copy_kinds, copy_rows, copy_texts};
 pub use members::Members;
 pub use text::{Memory, Text};
+pub use truth::{Op, Truth, compare};
