@@ -35,3 +35,7 @@ value_past name [] vs i d e h other = absurd (omega arith)
 value_past name (n ∷ ns) [] i d e h other = absurd (omega arith)
 value_past name (n ∷ ns) (v ∷ vs) zero d e h other = rw other refl
 value_past name (n ∷ ns) (v ∷ vs) (suc i) d e h other = value_past name ns vs i d (omega arith) (omega arith) other
+
+pub length_values : {X : Type 0} (ms : List (List ℕ × X)) → length (values_of ms) ≡ length ms
+length_values [] = refl
+length_values (m ∷ ms) = ap suc (length_values ms)

@@ -2,6 +2,7 @@
 #![tactic(auto)]
 
 mod cell;
+mod json;
 mod kind;
 mod lists;
 mod members;
@@ -9,6 +10,7 @@ mod text;
 mod truth;
 
 pub use cell::{Cell, copy_cells};
+pub use json::{CellFault, from_json, to_json};
 pub use kind::Kind;
 pub use lists::{Cells, Kinds, Rows, Texts, copy_kinds, copy_rows, copy_texts};
 pub use members::Members;
