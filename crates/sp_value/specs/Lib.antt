@@ -1,3 +1,5 @@
 pub mod Depth
+pub mod Json
 pub mod Names
+pub mod Truth
 pub mod formers

@@ -1,9 +1,10 @@
 ghost use Rattle.std.specs.Prelude.{◌≡◌, IfOk};
 
 use crate::cell::{Cell, copy_cell, copy_members};
-use crate::kind::{Kind, Op};
+use crate::kind::Kind;
 use crate::members::Members;
 use crate::text::{Memory, Text};
+use crate::truth::Op;
 use sqlite_items::Items;
 use std::alloc::Global;
 

@@ -3,25 +3,18 @@
 
 mod cell;
 mod copying;
+mod json;
 mod kind;
+mod lists;
 mod members;
 mod text;
+mod truth;
 
-pub use cell::Cell;
+pub use cell::{Cell, copy_cells};
 pub use copying::TryCopy;
-pub use kind::{Kind, Op};
+pub use json::{CellFault, from_json, to_json};
+pub use kind::Kind;
+pub use lists::{Cells, Kinds, Rows, Texts, copy_texts};
 pub use members::Members;
-use sqlite_items::Items;
 pub use text::{Memory, Text};
-
-/// A list of values.
-pub type Cells = Items<Cell>;
-
-/// A list of texts.
-pub type Texts = Items<Text>;
-
-/// A list of rows.
-pub type Rows = Items<Cells>;
-
-/// A list of kinds.
-pub type Kinds = Items<Kind>;
+pub use truth::{Op, Truth, compare};
