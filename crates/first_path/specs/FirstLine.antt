@@ -1,5 +1,5 @@
 -- The one line `select * from C.T`.
-use Rattle.std.specs.Prelude.{ℕ, ◌==◌, ◌-◌, Bool, true, ◌&&◌, not, List, [], ◌∷◌, length, codes, bytes_eq, nat_eq, map, take, drop, Option, Some, None, if◌then◌else◌}
+use Rattle.std.specs.Prelude.{ℕ, ◌==◌, ◌-◌, Bool, ◌&&◌, not, List, [], ◌∷◌, length, codes, bytes_eq, nat_eq, map, take, drop, Option, Some, None, if◌then◌else◌}
 use Rattle.std.specs.List.{list_any, starts_with, ends_with, before_first, after_first}
 use Rattle.sp_model.specs.Names.{is_word, is_connection_name}
 use Rattle.first_path.specs.declared.line.TheConstants.{RESERVED}

@@ -1,5 +1,5 @@
 -- The words of a command line.
-use Rattle.std.specs.Prelude.{ℕ, Bool, ◌&&◌, List, [], ◌∷◌, length, nat_le, codes, bytes_eq, Option, Some, None, if◌then◌else◌}
+use Rattle.std.specs.Prelude.{ℕ, Bool, ◌&&◌, List, ◌∷◌, length, nat_le, codes, bytes_eq, Option, Some, None, if◌then◌else◌}
 use Rattle.sp_model.specs.Names.{is_connection_name}
 
 abbrev pub is_query : List ℕ → List ℕ → List (List ℕ) → Bool

@@ -2,6 +2,7 @@
 #![tactic(auto)]
 
 mod line;
+mod plain;
 mod words;
 
 pub use line::{FirstLine, first_line};

@@ -7,8 +7,7 @@ use sp_model::{is_connection_name, is_word};
 /// The words that are no plain names.
 const RESERVED: [&[u8]; 21] = [
     b"select", b"from", b"where", b"join", b"inner", b"on", b"order", b"by", b"asc", b"desc",
-    b"limit", b"and", b"or", b"not", b"in", b"is", b"null", b"true", b"false", b"as",
-    b"group",
+    b"limit", b"and", b"or", b"not", b"in", b"is", b"null", b"true", b"false", b"as", b"group",
 ];
 
 /// The names of a connection and of a table, as bytes.

@@ -1,5 +1,5 @@
 -- The place is the first dot's, or the length.
-use Rattle.std.proofs.Common.{ℕ, ◌<◌, ◌≤◌, ◌≡◌, length, get_or, true, arith, eq-eqb, sym}
+use Rattle.std.proofs.Common.{length, get_or, arith, eq-eqb, sym}
 use Rattle.std.proofs.lemmas.List.Sums.{position_or_len_is}
 use Rattle.first_path.specs.FirstLine.{is_dot}
 use Rattle.first_path.proofs.line.dot_place.Goals as goal
