@@ -6,6 +6,7 @@ mod json;
 mod kind;
 mod lists;
 mod members;
+mod pattern;
 mod text;
 mod truth;
 
@@ -14,5 +15,6 @@ pub use json::{CellFault, from_json, to_json};
 pub use kind::Kind;
 pub use lists::{Cells, Kinds, Rows, Texts, copy_kinds, copy_rows, copy_texts};
 pub use members::Members;
+pub use pattern::Pattern;
 pub use text::{Memory, Text};
 pub use truth::{Op, Truth, compare};
