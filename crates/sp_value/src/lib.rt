@@ -7,6 +7,7 @@ mod json;
 mod kind;
 mod lists;
 mod members;
+mod pattern;
 mod text;
 mod truth;
 
@@ -16,5 +17,6 @@ pub use json::{CellFault, from_json, to_json};
 pub use kind::Kind;
 pub use lists::{Cells, Kinds, Rows, Texts, copy_texts};
 pub use members::Members;
+pub use pattern::Pattern;
 pub use text::{Memory, Text};
 pub use truth::{Op, Truth, compare};
