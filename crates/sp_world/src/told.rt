@@ -1,6 +1,7 @@
 ghost use Rattle.std.specs.Prelude.{◌≡◌, IsTrue};
 
 use crate::world::World;
+use serde_json::Value;
 use sp_model::{Asked, Piece, Version};
 use std::marker::{Model, PhantomData};
 
@@ -30,6 +31,22 @@ impl Said for Version {
     ghost is_of = { IsToldVersion };
 
     ghost is_sound = { IsSoundVersion };
+}
+
+impl Said for Value {
+    ghost use Rattle.sp_world.specs.Pieces.{IsToldDeclaration, IsSoundDeclaration};
+
+    ghost is_of = { IsToldDeclaration };
+
+    ghost is_sound = { IsSoundDeclaration };
+}
+
+/// What a line tells.
+#[derive(Drop)]
+pub enum ToldLine<W: World> {
+    Piece(Told<W, Piece>),
+    Version(Told<W, Version>),
+    Declaration(Told<W, Value>),
 }
 
 /// A piece, version or declaration beside what was asked.
