@@ -46,9 +46,9 @@ pub fn from_json(alloc: Global, value: &Value) -> Result<Cell, CellFault>
     }
 }
 
-/// Whether some number is no integer of 64 bits.
+/// Whether some number is no integer of 64 bits with a sign.
 #[cycle(odd)]
-fn has_odd_number(value: &Value) -> bool
+pub fn has_odd_number(value: &Value) -> bool
     ensures { result ≡ has_odd_number (view value.now) }
 {
     match value {
@@ -85,7 +85,7 @@ fn members_odd(members: &Map<String, Value>) -> bool
 
 /// Whether lists and objects nest at most `room` deep.
 #[cycle(nests)]
-fn nests(value: &Value, room: u64) -> bool
+pub fn nests(value: &Value, room: u64) -> bool
     ensures { IsTrue result ↔ (data_depth (view value.now) ≤ room) }
 {
     match value {
@@ -171,6 +171,15 @@ fn convert_members(alloc: Global, members: &Map<String, Value>) -> Result<Member
     Ok(Members::from_parts(names, values))
 }
 
+/// The values under their names that a JSON object stands for, where each of its numbers is an integer of 64 bits with a sign.
+pub fn members_from_json(alloc: Global, members: &Map<String, Value>) -> Result<Members, Memory>
+    requires { members_odd (members_view members.now.entries) ≡ false }
+    ensures { IfOk result (λ ms. pairs_of (members_view members.now.entries) ≡ Some ms) }
+{
+    let members = convert_members(alloc, members)?;
+    Ok(members)
+}
+
 /// The JSON that a value is written as. Its numbers are integers of 64 bits with a sign, it has no
 /// float, it nests as deep as the value, and it reads as the value again.
 #[tactic(auto, using(crate::proofs::JsonLaws::whole_of_cell, crate::proofs::JsonLaws::no_float_of_cell, crate::proofs::JsonLaws::depth_of_cell))]
@@ -183,6 +192,15 @@ pub fn to_json(alloc: Global, cell: &Cell) -> Result<Value, Memory>
 {
     let value = written(alloc, cell)?;
     Ok(value)
+}
+
+/// The JSON object that values under names are written as. It reads as these values again.
+pub fn members_to_json(alloc: Global, members: &Members) -> Result<Map<String, Value>, Memory>
+    ensures value { IfOk result (λ m. members_view m.entries ≡ pairs_data members.now) }
+    ensures reads_back { IfOk result (λ m. pairs_of (members_view m.entries) ≡ Some members.now) }
+{
+    let map = members_written(alloc, members)?;
+    Ok(map)
 }
 
 #[cycle(written)]
