@@ -1,6 +1,7 @@
 ghost use Rattle.std.specs.Prelude.{◌≡◌, ◌≤◌, ◌<◌, ◌+◌, ◌++◌, ◌∷◌, ℕ, List, true, false, length, take, drop, IfOk, IfSome, IfNone};
 ghost use Rattle.sp_value.specs.Patterns.{fits, some_end, is_literal};
 
+use crate::copying::TryCopy;
 use crate::text::{Memory, Text};
 use std::alloc::Global;
 use std::marker::Model;
@@ -36,19 +37,18 @@ impl Pattern {
         self.text.as_str()
     }
 
-    /// An equal pattern, unless memory is wanting.
-    pub fn copy(&self, alloc: Global) -> Result<Pattern, Memory>
-        ensures { IfOk result (λ p. p ≡ self.now) }
-    {
-        let text = self.text.copy(alloc)?;
-        Ok(Pattern { text })
-    }
-
     /// Whether the whole text fits the pattern.
     pub fn fits(&self, text: &Text) -> bool
         ensures { result ≡ fits self.now text.now }
     {
         fits_bytes(self.text.as_bytes(), text.as_bytes())
+    }
+}
+
+impl TryCopy for Pattern {
+    fn copy(&self, alloc: Global) -> Result<Pattern, Memory> {
+        let text = self.text.copy(alloc)?;
+        Ok(Pattern { text })
     }
 }
 
