@@ -7,6 +7,8 @@ mod kind;
 mod lists;
 mod members;
 mod pattern;
+#[cfg(test)]
+mod tests;
 mod text;
 mod truth;
 
@@ -15,6 +17,6 @@ pub use json::{CellFault, from_json, to_json};
 pub use kind::Kind;
 pub use lists::{Cells, Kinds, Rows, Texts, copy_kinds, copy_rows, copy_texts};
 pub use members::Members;
-pub use pattern::Pattern;
+pub use pattern::{Pattern, copy_patterns, fits_some};
 pub use text::{Memory, Text};
 pub use truth::{Op, Truth, compare};
