@@ -1,5 +1,5 @@
 -- What JSON that reads as a value is like.
-use Rattle.std.proofs.Common.{rules, ◌≡◌, ◌+◌, ◌≤◌, ◌++◌, zero, length, take, string_bytes, append_assoc, length-append, ℕ, suc, max, ℤ, Bool, false, ◌||◌, List, [], ◌∷◌, map, Option, Some, None, is_none, option_map, refl, ap, ◌∙◌, sym, arith}
+use Rattle.std.proofs.Common.{rules, ◌≡◌, ◌+◌, ◌≤◌, ◌++◌, length, take, string_bytes, append_assoc, length-append, ℕ, suc, max, ℤ, Bool, false, ◌||◌, List, [], ◌∷◌, map, Option, Some, None, is_none, option_map, refl, ap, ◌∙◌, sym, arith}
 use Rattle.serde_json.specs.Data.{Num, unsigned, negative, float, Data, null, boolean, number, string, array, object, Items, no_items, item, Members, no_members, member, items_depth, members_depth}
 use Rattle.serde_json.specs.Data.{depth as data_depth}
 use Rattle.serde_json.specs.Find.{as_i64, is_float}

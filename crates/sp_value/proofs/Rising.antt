@@ -1,5 +1,5 @@
 -- Names that rise, in members and in the entries of a map.
-use Rattle.std.proofs.Common.{◌≡◌, ◌<◌, ℕ, zero, suc, length, get_or, take, drop, List, [], ◌∷◌, ◌++◌, Bool, true, false, ◌&&◌, Ordering, Less, Equal, Greater, true≢false, String, Global, string_bytes, string_cmp, refl, ap, ◌∙◌, sym, arith}
+use Rattle.std.proofs.Common.{◌≡◌, ◌<◌, ℕ, zero, suc, length, get_or, take, drop, List, [], ◌∷◌, ◌++◌, Bool, true, false, ◌&&◌, Ordering, Less, Equal, Greater, true≢false, string_bytes, string_cmp, refl, ap, ◌∙◌, sym, arith}
 use Rattle.std.proofs.lemmas.Cmp.{nat_list_cmp_total}
 use Rattle.std.specs.Cmp.Lexicographic.{slice_cmp}
 use Rattle.std.specs.List.Sorted.{IsStrictlySortedBy}

@@ -1,5 +1,5 @@
 -- Names and values, and their pairs.
-use Rattle.std.proofs.Common.{◌≡◌, ◌<◌, ℕ, zero, suc, false, get_or, drop, bytes_eq, List, [], ◌∷◌, length, refl, ap, arith, ◌∙◌, sym}
+use Rattle.std.proofs.Common.{◌≡◌, ◌<◌, ℕ, zero, suc, false, get_or, drop, bytes_eq, List, [], ◌∷◌, length, refl, ap, arith}
 use Rattle.std.specs.List.{zip}
 use Rattle.sp_value.specs.Names.{names_of, values_of, value_under}
 

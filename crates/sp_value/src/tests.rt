@@ -1,6 +1,6 @@
 use crate::{
-    Cell, CellFault, Kind, Members, Op, Pattern, Text, Truth, compare, copy_cells, copy_kinds,
-    copy_rows, copy_texts, from_json, to_json,
+    Cell, CellFault, Cells, Kind, Op, Pattern, Rows, Text, Texts, Truth, compare, copy_kinds,
+    copy_patterns, copy_rows, copy_texts, fits_some, from_json, to_json,
 };
 use serde_json::Value;
 use sqlite_items::Items;
@@ -136,32 +136,59 @@ fn a_bad_number_comes_before_too_deep(rt: HostRuntime) -> Result<(), Fail> {
     Ok(())
 }
 
+fn text_at(alloc: Global, text: &str) -> Result<Text, Fail> {
+    let text = Text::from_str(alloc, text).ok().ok_or("out of memory")?;
+    Ok(text)
+}
+
 #[test]
-fn lists_and_members_are_copied(rt: HostRuntime) -> Result<(), Fail> {
+fn members_are_found_by_their_whole_name(rt: HostRuntime) -> Result<(), Fail> {
     let cell = cell_at(rt.alloc(), "{\"id\":1,\"name\":\"ant\"}")?;
-    let Cell::Object(members) = cell else {
-        return Err("no object".into());
-    };
-    let copied: Members = members.copy(rt.alloc()).ok().ok_or("out of memory")?;
-    assert_eq!(rt; copied.len(), 2);
-    assert!(rt; matches!(copied.get("id"), Some(Cell::Int(1))));
-    assert!(rt; copied.get("ident").is_none());
-    let names = copy_texts(rt.alloc(), copied.names())
+    if let Cell::Object(members) = &cell {
+        let copied = members.copy(rt.alloc()).ok().ok_or("out of memory")?;
+        assert_eq!(rt; copied.len(), 2);
+        assert!(rt; matches!(copied.get("id"), Some(Cell::Int(1))));
+        assert!(rt; copied.get("ident").is_none());
+    }
+    Ok(())
+}
+
+#[test]
+fn texts_compare_by_bytes(rt: HostRuntime) -> Result<(), Fail> {
+    let mut texts = Texts::new(rt.alloc());
+    texts.push(text_at(rt.alloc(), "Z")?)?;
+    texts.push(text_at(rt.alloc(), "a")?)?;
+    let copies = copy_texts(rt.alloc(), texts.as_slice())
         .ok()
         .ok_or("out of memory")?;
-    assert_eq!(rt; names.len(), 2);
-    let mut rows = Items::new(rt.alloc());
-    let row = copy_cells(rt.alloc(), copied.values())
+    assert!(rt; copies.as_slice() == texts.as_slice());
+    assert!(rt; copies.as_slice().is_sorted());
+    Ok(())
+}
+
+#[test]
+fn rows_and_kinds_are_copied(rt: HostRuntime) -> Result<(), Fail> {
+    let mut rows = Rows::new(rt.alloc());
+    rows.push(Cells::new(rt.alloc()))?;
+    let copies = copy_rows(rt.alloc(), rows.as_slice())
         .ok()
         .ok_or("out of memory")?;
-    rows.push(row)?;
-    let rows = copy_rows(rt.alloc(), rows.as_slice())
+    assert_eq!(rt; copies.len(), 1);
+    let kinds = copy_kinds(rt.alloc(), &[Kind::Int, Kind::Json])
         .ok()
         .ok_or("out of memory")?;
-    assert_eq!(rt; rows.len(), 1);
-    let kinds = copy_kinds(rt.alloc(), &[Kind::Int, Kind::Text])
+    assert!(rt; kinds.as_slice() == [Kind::Int, Kind::Json].as_slice());
+    Ok(())
+}
+
+#[test]
+fn some_pattern_of_a_list_fits(rt: HostRuntime) -> Result<(), Fail> {
+    let mut patterns = Items::new(rt.alloc());
+    patterns.push(Pattern::read(rt.alloc(), "a*").ok().ok_or("out of memory")?)?;
+    let copies = copy_patterns(rt.alloc(), patterns.as_slice())
         .ok()
         .ok_or("out of memory")?;
-    assert_eq!(rt; kinds.len(), 2);
+    assert!(rt; fits_some(copies.as_slice(), &text_at(rt.alloc(), "ant")?));
+    assert!(rt; !fits_some(copies.as_slice(), &text_at(rt.alloc(), "bee")?));
     Ok(())
 }

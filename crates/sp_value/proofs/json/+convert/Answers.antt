@@ -1,6 +1,5 @@
 use Rattle.std.proofs.Common.{◌≡◌, ◌∷◌, ◌++◌, [], ap, ◌∙◌, sym, subst, string_bytes, append-nil}
 use Rattle.serde_json.proofs.Views.{Entry}
-use Rattle.sp_value.specs.Json.{cell_of}
 use Rattle.sp_value.specs.Names.{rise}
 use Rattle.sp_value.proofs.JsonLaws.{Filled, fill}
 use Rattle.sp_value.proofs.Rising.{names_rise, names_in}

@@ -1,9 +1,8 @@
-use Rattle.std.proofs.Common.{◌≡◌, ◌<◌, ◌≤◌, ◌∷◌, ◌++◌, ◌+◌, [], suc, length, take, drop, get_or, Some, map, ap, ◌∙◌, sym, subst, refl, arith, add-one, true, string_bytes}
-use Rattle.serde_json.specs.Data.{put}
-use Rattle.serde_json.specs.View.{view, members_view}
+use Rattle.std.proofs.Common.{◌≡◌, ◌<◌, ◌≤◌, ◌∷◌, ◌++◌, [], suc, length, take, drop, get_or, Some, ap, ◌∙◌, sym, arith, add-one, true, string_bytes}
+use Rattle.serde_json.specs.View.{members_view}
 use Rattle.serde_json.proofs.Views.{members_view-insert_entry}
 use Rattle.sp_value.specs.Json.{data_of, cell_of, pairs_data}
-use Rattle.sp_value.specs.Names.{names_of, values_of, rise}
+use Rattle.sp_value.specs.Names.{names_of, rise}
 use Rattle.sp_value.proofs.JsonLaws.{cells_done, pairs_done, pairs_more}
 use Rattle.sp_value.proofs.Rising.{at_place, put_last}
 use Rattle.sp_value.proofs.Zips.{length_parts, length_values}

@@ -1,4 +1,4 @@
-use Rattle.std.proofs.Common.{◌≡◌, ◌<◌, length, false, get_or, bytes_eq, ◌∙◌, sym, ap, add-one}
+use Rattle.std.proofs.Common.{◌≡◌, false, get_or, bytes_eq, ◌∙◌, sym, ap, add-one}
 use Rattle.sp_value.proofs.Zips.{value_past}
 use Rattle.sp_value.proofs.members.find.Goals as goal
 
