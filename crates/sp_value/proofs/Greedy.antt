@@ -1,9 +1,9 @@
 -- A piece of a pattern taken where it first stands.
-use Rattle.std.proofs.Common.{◌≡◌, ◌⊎◌, inl, inr, get_or, length-drop, zero-add, ◌≤◌, ◌<◌, ◌-◌, ◌+◌, ℕ, zero, suc, Bool, true, false, not, ◌||◌, ◌&&◌, ◌==◌, List, [], ◌∷◌, ◌++◌, length, take, drop, bytes_eq, cond, true≢false, refl, ap, ◌∙◌, sym, arith}
+use Rattle.std.proofs.Common.{◌≡◌, ◌⊎◌, inl, inr, get_or, length-drop, zero-add, ◌≤◌, ◌<◌, ◌-◌, ◌+◌, ℕ, zero, suc, Bool, true, false, not, ◌||◌, ◌&&◌, ◌==◌, List, [], ◌∷◌, ◌++◌, length, take, drop, bytes_eq, cond, refl, ap, ◌∙◌, sym, arith}
 use Rattle.std.proofs.lemmas.Bool.Decides.{nat_tests}
 use Rattle.std.proofs.lemmas.List.{length-take-le, take_all}
 use Rattle.std.specs.List.{ends_with, starts_with}
-use Rattle.sp_value.specs.Patterns.{is_empty, some_end, first_is, fits, is_literal}
+use Rattle.sp_value.specs.Patterns.{some_end, first_is, fits, is_literal}
 
 and_first : (a b : Bool) → (a && b) ≡ true → a ≡ true
 and_first a b h = grind arith

@@ -8,6 +8,8 @@ mod kind;
 mod lists;
 mod members;
 mod pattern;
+#[cfg(test)]
+mod tests;
 mod text;
 mod truth;
 
@@ -17,6 +19,6 @@ pub use json::{CellFault, from_json, has_odd_number, members_from_json, members_
 pub use kind::Kind;
 pub use lists::{Cells, Kinds, Rows, Texts, copy_texts};
 pub use members::Members;
-pub use pattern::Pattern;
+pub use pattern::{Pattern, copy_patterns, fits_some};
 pub use text::{Memory, Text};
 pub use truth::{Op, Truth, compare};

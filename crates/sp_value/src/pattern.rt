@@ -1,8 +1,9 @@
 ghost use Rattle.std.specs.Prelude.{◌≡◌, ◌≤◌, ◌<◌, ◌+◌, ◌++◌, ◌∷◌, ℕ, List, true, false, length, take, drop, IfOk, IfSome, IfNone};
-ghost use Rattle.sp_value.specs.Patterns.{fits, some_end, is_literal};
+ghost use Rattle.sp_value.specs.Patterns.{fits, fits_some, some_end, is_literal};
 
 use crate::copying::TryCopy;
 use crate::text::{Memory, Text};
+use sqlite_items::Items;
 use std::alloc::Global;
 use std::marker::Model;
 
@@ -112,4 +113,29 @@ fn after_first(piece: &[u8], text: &[u8]) -> Option<usize>
         }
     }
     None
+}
+
+/// Whether some pattern of a list fits the whole text.
+pub fn fits_some(patterns: &[Pattern], text: &Text) -> bool
+    ensures { result ≡ fits_some patterns.now text.now }
+{
+    for pattern in patterns {
+        if pattern.fits(text) {
+            return true;
+        }
+    }
+    false
+}
+
+/// Equal patterns in the same order, unless memory is wanting.
+pub fn copy_patterns(alloc: Global, patterns: &[Pattern]) -> Result<Items<Pattern>, Memory>
+    ensures { IfOk result (λ copies. copies ≡ patterns.now) }
+{
+    let mut copies = Items::new(alloc);
+    for pattern in patterns {
+        let Ok(()) = copies.push(pattern.copy(alloc)?) else {
+            return Err(Memory);
+        };
+    }
+    Ok(copies)
 }

@@ -1,4 +1,4 @@
-use Rattle.std.proofs.Common.{◌≡◌, ◌==◌, ◌+◌, ℕ, List, length, drop, true, false, sym, ap, ◌∙◌, add-one, arith}
+use Rattle.std.proofs.Common.{◌≡◌, ◌==◌, length, drop, true, false, sym, ap, ◌∙◌, add-one}
 use Rattle.std.specs.List.{starts_with}
 use Rattle.sp_value.specs.Patterns.{fits, some_end}
 use Rattle.sp_value.proofs.Greedy.{taken, empty_taken, missed_at, none_at, is_none, is_some, cut, drop_twice}

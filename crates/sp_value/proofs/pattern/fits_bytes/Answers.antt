@@ -1,6 +1,5 @@
-use Rattle.std.proofs.Common.{◌≡◌, ◌==◌, ◌+◌, ◌-◌, ◌<◌, ◌&&◌, length, take, drop, true, false, sym, ap, ◌∙◌, arith}
+use Rattle.std.proofs.Common.{◌≡◌, ◌+◌, ◌-◌, ◌<◌, ◌&&◌, length, take, drop, true, sym, ap, ◌∙◌, arith}
 use Rattle.std.proofs.lemmas.List.{take_all}
-use Rattle.std.specs.List.{starts_with}
 use Rattle.sp_value.specs.Patterns.{fits, some_end, is_literal}
 use Rattle.sp_value.proofs.Greedy.{literal_fits, first_piece, cut}
 use Rattle.sp_value.proofs.pattern.fits_bytes.Goals as goal
