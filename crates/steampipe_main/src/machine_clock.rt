@@ -1,0 +1,50 @@
+ghost use Rattle.std.specs.Prelude.{◌≤◌, ◌^◌};
+
+use sp_outside::{Clock, ClockPass};
+use std::thread;
+use std::time::{self, Duration, Instant};
+
+/// The machine's clock in milliseconds since a start, of at most 2^62.
+pub(crate) struct MachineClock<R: time::Clock> {
+    rt: R,
+    start: Instant,
+}
+
+const LAST: u64 = 1 << 62;
+
+impl<R: time::Clock> MachineClock<R> {
+    pub(crate) fn new(rt: R, start: Instant) -> MachineClock<R> {
+        MachineClock { rt, start }
+    }
+
+    /// The milliseconds since the start, 0 where the clock can't be read.
+    fn millis(&self) -> u64
+        ensures { result ≤ 2 ^ 62 }
+    {
+        match self.start.elapsed(&self.rt) {
+            Ok(passed) => {
+                let whole = passed.as_millis();
+                if whole < LAST as u128 { whole as u64 } else { LAST }
+            }
+            Err(_) => 0,
+        }
+    }
+}
+
+impl<R: time::Clock> Clock for MachineClock<R> {
+    fn now(&self, pass: &mut ClockPass) -> u64 {
+        pass.readings = pass.readings.saturating_add(1);
+        pass.latest = pass.latest.max(self.millis());
+        pass.latest
+    }
+
+    fn wait_until(&self, pass: &mut ClockPass, tick: u64) -> u64 {
+        let now = self.millis();
+        if now < tick {
+            thread::sleep(&self.rt, Duration::from_millis(tick - now));
+        }
+        pass.readings = pass.readings.saturating_add(1);
+        pass.latest = pass.latest.max(tick).max(self.millis());
+        pass.latest
+    }
+}

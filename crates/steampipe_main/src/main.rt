@@ -1,0 +1,8 @@
+//! The program: the streams, files, child programs and clock of the machine, handed to the top call.
+#![tactic(auto)]
+
+mod folder;
+mod machine_clock;
+mod streams;
+
+fn main() {}

@@ -1,0 +1,105 @@
+ghost use Rattle.std.specs.Io.{ReadsAtMost, WritesAtMost};
+ghost use Rattle.sp_outside.specs.Writing.{WritesSome};
+
+use sp_outside::{Failed, Sink, Source};
+use std::io::{ErrorKind, Read, Write};
+
+/// A reader as a source. It tells nothing of its bytes, and counts its errors.
+#[derive(Drop)]
+pub(crate) struct ReaderSource<R: Read + Drop> {
+    reader: R,
+    faults: u64,
+}
+
+impl<R: Read + Drop> ReaderSource<R> {
+    pub(crate) fn new(reader: R) -> ReaderSource<R> {
+        ReaderSource { reader, faults: 0 }
+    }
+}
+
+/// Reads some bytes, none at the end.
+fn read_some<R: Read>(reader: &mut R, into: &mut [u8]) -> Result<usize, Failed>
+    ensures { ReadsAtMost result into.new }
+{
+    for _ in 0..u64::MAX {
+        match reader.read(into) {
+            Ok(count) => return Ok(count),
+            Err(error) if error.kind() == ErrorKind::Interrupted => {}
+            Err(_) => break,
+        }
+    }
+    Err(Failed)
+}
+
+impl<R: Read + Drop> Source for ReaderSource<R> {
+    ghost use Rattle.std.specs.Prelude.{None};
+
+    ghost left = { λ _. None };
+
+    ghost faulted = { λ s. s.faults };
+
+    fn read(&mut self, into: &mut [u8]) -> Result<usize, Failed> {
+        match read_some(&mut self.reader, into) {
+            Ok(count) => Ok(count),
+            Err(_) => {
+                self.faults = self.faults.saturating_add(1);
+                Err(Failed)
+            }
+        }
+    }
+
+    fn faults(&self) -> u64 {
+        self.faults
+    }
+}
+
+/// A writer as a sink. It tells nothing of its bytes, and counts its errors and the pieces of which it took nothing.
+#[derive(Drop)]
+pub(crate) struct WriterSink<K: Write + Drop> {
+    writer: K,
+    faults: u64,
+}
+
+impl<K: Write + Drop> WriterSink<K> {
+    pub(crate) fn new(writer: K) -> WriterSink<K> {
+        WriterSink { writer, faults: 0 }
+    }
+}
+
+/// Writes some of the bytes, at least one where there is one.
+fn write_some<K: Write>(writer: &mut K, from: &[u8]) -> Result<usize, Failed>
+    ensures bound { WritesAtMost result from.now }
+    ensures some { WritesSome result from.now }
+{
+    for _ in 0..u64::MAX {
+        match writer.write(from) {
+            Ok(0) if !from.is_empty() => break,
+            Ok(count) => return Ok(count),
+            Err(error) if error.kind() == ErrorKind::Interrupted => {}
+            Err(_) => break,
+        }
+    }
+    Err(Failed)
+}
+
+impl<K: Write + Drop> Sink for WriterSink<K> {
+    ghost use Rattle.std.specs.Prelude.{None};
+
+    ghost held = { λ _. None };
+
+    ghost faulted = { λ s. s.faults };
+
+    fn write(&mut self, from: &[u8]) -> Result<usize, Failed> {
+        match write_some(&mut self.writer, from) {
+            Ok(count) => Ok(count),
+            Err(_) => {
+                self.faults = self.faults.saturating_add(1);
+                Err(Failed)
+            }
+        }
+    }
+
+    fn faults(&self) -> u64 {
+        self.faults
+    }
+}
