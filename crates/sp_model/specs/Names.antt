@@ -1,5 +1,5 @@
 -- Which texts may be names.
-use Rattle.std.specs.Prelude.{ℕ, ◌==◌, Bool, true, false, ◌&&◌, ◌||◌, List, [], ◌∷◌, length, nat_le}
+use Rattle.std.specs.Prelude.{ℕ, ◌==◌, Bool, false, ◌&&◌, ◌||◌, List, [], ◌∷◌, length, nat_le}
 use Rattle.std.specs.List.{list_all}
 
 abbrev pub is_plain_byte : ℕ → Bool

@@ -4,6 +4,7 @@
 mod call;
 mod declaration;
 mod names;
+mod outcome;
 mod scan;
 mod settings;
 
@@ -13,5 +14,6 @@ pub use declaration::{
     Matching, Need, Patterns, Retry, Rule, TableDecl,
 };
 pub use names::{is_connection_name, is_name, is_word};
+pub use outcome::{Outcome, Row, ScanValue, Settled};
 pub use scan::{Access, Cause, Mark, ScanNote, ScanNotes, ScanRequest, Seat};
 pub use settings::{Connection, Limiter, Options, Pair, Settings};
