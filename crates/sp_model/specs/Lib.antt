@@ -5,3 +5,4 @@ pub mod Names
 pub mod RowOf
 pub mod Sayable
 pub mod Settling
+pub mod Walk
