@@ -15,10 +15,12 @@ mod truth;
 
 pub use cell::{Cell, copy_cells};
 pub use copying::TryCopy;
-pub use json::{CellFault, from_json, has_odd_number, members_from_json, members_to_json, nests, to_json};
+pub use json::{
+    CellFault, from_json, has_odd_number, members_from_json, members_to_json, nests, to_json,
+};
 pub use kind::Kind;
 pub use lists::{Cells, Kinds, Rows, Texts, copy_texts};
 pub use members::Members;
-pub use pattern::{Pattern, copy_patterns, fits_some};
+pub use pattern::{Pattern, fits_some};
 pub use text::{Memory, Text};
 pub use truth::{Op, Truth, compare};

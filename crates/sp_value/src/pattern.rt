@@ -3,7 +3,6 @@ ghost use Rattle.sp_value.specs.Patterns.{fits, fits_some, some_end, is_literal}
 
 use crate::copying::TryCopy;
 use crate::text::{Memory, Text};
-use sqlite_items::Items;
 use std::alloc::Global;
 use std::marker::Model;
 
@@ -125,17 +124,4 @@ pub fn fits_some(patterns: &[Pattern], text: &Text) -> bool
         }
     }
     false
-}
-
-/// Equal patterns in the same order, unless memory is wanting.
-pub fn copy_patterns(alloc: Global, patterns: &[Pattern]) -> Result<Items<Pattern>, Memory>
-    ensures { IfOk result (λ copies. copies ≡ patterns.now) }
-{
-    let mut copies = Items::new(alloc);
-    for pattern in patterns {
-        let Ok(()) = copies.push(pattern.copy(alloc)?) else {
-            return Err(Memory);
-        };
-    }
-    Ok(copies)
 }

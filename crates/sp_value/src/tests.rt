@@ -1,6 +1,6 @@
 use crate::{
-    Cell, CellFault, Cells, Kind, Op, Pattern, Rows, Text, Texts, Truth, compare, copy_kinds,
-    copy_patterns, copy_rows, copy_texts, fits_some, from_json, to_json,
+    Cell, CellFault, Cells, Kind, Kinds, Op, Pattern, Rows, Text, Texts, Truth, TryCopy, compare,
+    fits_some, from_json, to_json,
 };
 use serde_json::Value;
 use sqlite_items::Items;
@@ -11,6 +11,11 @@ fn cell_at(alloc: Global, text: &str) -> Result<Cell, Fail> {
     let value = Value::from_str(alloc, text)?;
     let cell = from_json(alloc, &value)?;
     Ok(cell)
+}
+
+fn copied<T: TryCopy>(alloc: Global, value: &T) -> Result<T, Fail> {
+    let copy = value.copy(alloc).ok().ok_or("out of memory")?;
+    Ok(copy)
 }
 
 fn spelled(alloc: Global, cell: &Cell) -> Result<String, Fail> {
@@ -67,7 +72,7 @@ fn a_star_stands_for_any_bytes(rt: HostRuntime) -> Result<(), Fail> {
         let pattern = Pattern::read(rt.alloc(), pattern)
             .ok()
             .ok_or("out of memory")?;
-        let pattern = pattern.copy(rt.alloc()).ok().ok_or("out of memory")?;
+        let pattern = copied(rt.alloc(), &pattern)?;
         let text = Text::from_str(rt.alloc(), text)
             .ok()
             .ok_or("out of memory")?;
@@ -95,8 +100,8 @@ fn json_is_spelled_again_with_its_names_in_order(rt: HostRuntime) -> Result<(), 
         ("\"\\u00e9\\n\"", "\"é\\n\""),
     ] {
         let cell = cell_at(rt.alloc(), text)?;
-        let copied = cell.copy(rt.alloc()).ok().ok_or("out of memory")?;
-        assert_eq!(rt; spelled(rt.alloc(), &copied)?.as_str(), want);
+        let copy = copied(rt.alloc(), &cell)?;
+        assert_eq!(rt; spelled(rt.alloc(), &copy)?.as_str(), want);
     }
     Ok(())
 }
@@ -145,10 +150,10 @@ fn text_at(alloc: Global, text: &str) -> Result<Text, Fail> {
 fn members_are_found_by_their_whole_name(rt: HostRuntime) -> Result<(), Fail> {
     let cell = cell_at(rt.alloc(), "{\"id\":1,\"name\":\"ant\"}")?;
     if let Cell::Object(members) = &cell {
-        let copied = members.copy(rt.alloc()).ok().ok_or("out of memory")?;
-        assert_eq!(rt; copied.len(), 2);
-        assert!(rt; matches!(copied.get("id"), Some(Cell::Int(1))));
-        assert!(rt; copied.get("ident").is_none());
+        let copy = copied(rt.alloc(), members)?;
+        assert_eq!(rt; copy.len(), 2);
+        assert!(rt; matches!(copy.get("id"), Some(Cell::Int(1))));
+        assert!(rt; copy.get("ident").is_none());
     }
     Ok(())
 }
@@ -158,9 +163,7 @@ fn texts_compare_by_bytes(rt: HostRuntime) -> Result<(), Fail> {
     let mut texts = Texts::new(rt.alloc());
     texts.push(text_at(rt.alloc(), "Z")?)?;
     texts.push(text_at(rt.alloc(), "a")?)?;
-    let copies = copy_texts(rt.alloc(), texts.as_slice())
-        .ok()
-        .ok_or("out of memory")?;
+    let copies = copied(rt.alloc(), &texts)?;
     assert!(rt; copies.as_slice() == texts.as_slice());
     assert!(rt; copies.as_slice().is_sorted());
     Ok(())
@@ -170,25 +173,21 @@ fn texts_compare_by_bytes(rt: HostRuntime) -> Result<(), Fail> {
 fn rows_and_kinds_are_copied(rt: HostRuntime) -> Result<(), Fail> {
     let mut rows = Rows::new(rt.alloc());
     rows.push(Cells::new(rt.alloc()))?;
-    let copies = copy_rows(rt.alloc(), rows.as_slice())
-        .ok()
-        .ok_or("out of memory")?;
-    assert_eq!(rt; copies.len(), 1);
-    let kinds = copy_kinds(rt.alloc(), &[Kind::Int, Kind::Json])
-        .ok()
-        .ok_or("out of memory")?;
-    assert!(rt; kinds.as_slice() == [Kind::Int, Kind::Json].as_slice());
+    assert_eq!(rt; copied(rt.alloc(), &rows)?.len(), 1);
+    let kinds = Kinds::from_slice(rt.alloc(), &[Kind::Int, Kind::Json])?;
+    assert!(rt; copied(rt.alloc(), &kinds)?.as_slice() == kinds.as_slice());
+    assert_eq!(rt; copied(rt.alloc(), &Some(Op::Ge))?, Some(Op::Ge));
     Ok(())
 }
 
 #[test]
 fn some_pattern_of_a_list_fits(rt: HostRuntime) -> Result<(), Fail> {
     let mut patterns = Items::new(rt.alloc());
-    patterns.push(Pattern::read(rt.alloc(), "a*").ok().ok_or("out of memory")?)?;
-    let copies = copy_patterns(rt.alloc(), patterns.as_slice())
-        .ok()
-        .ok_or("out of memory")?;
-    assert!(rt; fits_some(copies.as_slice(), &text_at(rt.alloc(), "ant")?));
-    assert!(rt; !fits_some(copies.as_slice(), &text_at(rt.alloc(), "bee")?));
+    let pattern = Pattern::read(rt.alloc(), "a*").ok().ok_or("out of memory")?;
+    patterns.push(pattern)?;
+    let ant = text_at(rt.alloc(), "ant")?;
+    assert!(rt; fits_some(patterns.as_slice(), &ant));
+    let bee = text_at(rt.alloc(), "bee")?;
+    assert!(rt; !fits_some(patterns.as_slice(), &bee));
     Ok(())
 }
