@@ -15,13 +15,13 @@ use Rattle.sp_value.specs.Json.{has_odd_number, items_odd, members_odd, cons_cel
 use Rattle.sp_value.specs.declared.cell.Cell.{Cell, the_lemmas}
 use Rattle.sp_value.specs.declared.cell.Cell as c
 
-or_false : (a b : Bool) → a ≡ false → b ≡ false → (a || b) ≡ false
+pub or_false : (a b : Bool) → a ≡ false → b ≡ false → (a || b) ≡ false
 or_false a b p q = rw (p, q) refl
 
-first_false : (a b : Bool) → (a || b) ≡ false → a ≡ false
+pub first_false : (a b : Bool) → (a || b) ≡ false → a ≡ false
 first_false a b h = grind arith
 
-second_false : (a b : Bool) → (a || b) ≡ false → b ≡ false
+pub second_false : (a b : Bool) → (a || b) ≡ false → b ≡ false
 second_false a b h = grind arith
 
 integer_no_float : (n : Num) → is_none (as_i64 n) ≡ false → is_float n ≡ false
@@ -76,24 +76,24 @@ depth_of_number : (o : Option ℤ) (x : Cell) → option_map c.Int o ≡ Some x 
 depth_of_number None x h = absurd (cc)
 depth_of_number (Some z) x h = let e : c.Int z ≡ x = cc in ap depth (sym e) ∙ depth-Int z
 
-some_number : (o : Option ℤ) (x : Cell) → option_map c.Int o ≡ Some x → is_none o ≡ false
+pub some_number : (o : Option ℤ) (x : Cell) → option_map c.Int o ≡ Some x → is_none o ≡ false
 some_number None x h = cc
 some_number (Some z) x h = refl
 
-some_list : (o : Option (List Cell)) (x : Cell) → option_map c.List o ≡ Some x → (xs : List Cell) × (o ≡ Some xs) × (c.List xs ≡ x)
+pub some_list : (o : Option (List Cell)) (x : Cell) → option_map c.List o ≡ Some x → (xs : List Cell) × (o ≡ Some xs) × (c.List xs ≡ x)
 some_list None x h = absurd (cc)
 some_list (Some xs) x h = (xs, refl, cc)
 
-some_object : (o : Option (List (List ℕ × Cell))) (x : Cell) → option_map c.Object o ≡ Some x → (ms : List (List ℕ × Cell)) × (o ≡ Some ms) × (c.Object ms ≡ x)
+pub some_object : (o : Option (List (List ℕ × Cell))) (x : Cell) → option_map c.Object o ≡ Some x → (ms : List (List ℕ × Cell)) × (o ≡ Some ms) × (c.Object ms ≡ x)
 some_object None x h = absurd (cc)
 some_object (Some ms) x h = (ms, refl, cc)
 
-some_cons : (o : Option Cell) (os : Option (List Cell)) (xs : List Cell) → cons_cell o os ≡ Some xs → (y : Cell) × (ys : List Cell) × (o ≡ Some y) × (os ≡ Some ys) × (y ∷ ys ≡ xs)
+pub some_cons : (o : Option Cell) (os : Option (List Cell)) (xs : List Cell) → cons_cell o os ≡ Some xs → (y : Cell) × (ys : List Cell) × (o ≡ Some y) × (os ≡ Some ys) × (y ∷ ys ≡ xs)
 some_cons None os xs h = absurd (cc)
 some_cons (Some y) None xs h = absurd (cc)
 some_cons (Some y) (Some ys) xs h = (y, ys, refl, refl, cc)
 
-some_member : (k : List ℕ) (o : Option Cell) (os : Option (List (List ℕ × Cell))) (xs : List (List ℕ × Cell)) → cons_member k o os ≡ Some xs
+pub some_member : (k : List ℕ) (o : Option Cell) (os : Option (List (List ℕ × Cell))) (xs : List (List ℕ × Cell)) → cons_member k o os ≡ Some xs
     → (y : Cell) × (ys : List (List ℕ × Cell)) × (o ≡ Some y) × (os ≡ Some ys) × ((k, y) ∷ ys ≡ xs)
 some_member k None os xs h = absurd (cc)
 some_member k (Some y) None xs h = absurd (cc)
