@@ -1,3 +1,5 @@
-pub mod Words
+pub mod Answers
 pub mod FirstLine
 pub mod Plain
+pub mod PlainScan
+pub mod Words

@@ -7,6 +7,7 @@ use Rattle.serde_json.specs.Events.{members_len}
 use Rattle.sp_value.specs.declared.kind.Kind.{Kind}
 use Rattle.sp_value.specs.declared.kind.Kind.TheVariants as kind
 use Rattle.sp_model.specs.Names.{is_name}
+use Rattle.sp_model.specs.PlainList.{plain_table}
 use Rattle.sp_model.specs.declared.declaration.ColumnDecl.{ColumnDecl}
 use Rattle.sp_model.specs.declared.declaration.TableDecl.{TableDecl}
 
@@ -71,19 +72,6 @@ columns_at d = option_and_then checked_columns (option_and_then columns_of (opti
 -- `{"function": ..}`
 abbrev pub list_function : Data → Option (List ℕ)
 list_function d = if has_members 1 d then name_at (codes "function") d else None
-
--- a table with a list and nothing else
-abbrev pub plain_table : List ℕ → List ColumnDecl → List ℕ → TableDecl
-plain_table name columns function = record {
-  name = name;
-  columns = columns;
-  list = Some (record { function = function; keys = []; parent = None; tags = []; ignore = None; retry = None });
-  get = None;
-  functions = [];
-  ignore = None;
-  retry = None;
-  plugin = record { ignore = None; retry = None };
-}
 
 abbrev pub table_from : Option (List ℕ) → Option (List ColumnDecl) → Option (List ℕ) → Option TableDecl
 table_from (Some name) (Some columns) (Some function) = Some (plain_table name columns function)

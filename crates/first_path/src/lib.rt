@@ -4,9 +4,12 @@
 mod answer;
 mod line;
 mod plain;
+mod plain_scan;
+mod statement;
 mod words;
 
 pub use answer::{Answer, AnswerEnd, BlockFault};
 pub use line::{FirstLine, first_line};
 pub use plain::{find_table, plain_tables};
+pub use statement::answer_line;
 pub use words::{QueryWords, read_words};

@@ -3,6 +3,7 @@
 
 mod folder;
 mod machine_clock;
+mod pending_lines;
 mod streams;
 
 fn main() {}

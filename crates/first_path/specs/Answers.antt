@@ -1,0 +1,102 @@
+-- The answer to the one line of input.
+use Rattle.std.specs.Prelude.{◌≡◌, ℕ, ◌+◌, ◌≤◌, List, [], ◌∷◌, length, map, bytes_eq, MatchBool, Option, Some, None, if◌then◌else◌}
+use mathlib.Core.List.{IsPrefix}
+use Rattle.sp_model.specs.Book.{Book}
+use Rattle.sp_model.specs.PlainList.{plain_request}
+use Rattle.sp_model.specs.Walk.{scan_value}
+use Rattle.sp_model.specs.declared.declaration.TableDecl.{TableDecl}
+use Rattle.sp_model.specs.declared.outcome.ScanValue.{ScanValue}
+use Rattle.sp_model.specs.declared.outcome.ScanValue.TheVariants as scan
+use Rattle.sp_model.specs.declared.scan.Mark.TheVariants.{Fresh}
+use Rattle.sp_model.specs.declared.scan.ScanNote.{ScanNote}
+use Rattle.first_path.specs.FirstLine.{first_line}
+use Rattle.first_path.specs.Plain.{plain_tables, find_table}
+use Rattle.first_path.specs.declared.answer.Answer.{Answer}
+use Rattle.first_path.specs.declared.answer.AnswerEnd.{AnswerEnd}
+use Rattle.first_path.specs.declared.answer.AnswerEnd.TheVariants as end
+use Rattle.first_path.specs.declared.answer.BlockFault.{BlockFault}
+use Rattle.first_path.specs.declared.answer.BlockFault.TheVariants as fault
+
+-- an answer without a scan
+abbrev pub plain_answer : ℕ → AnswerEnd → Answer
+plain_answer began e = record { end = e; names = []; kinds = []; notes = []; began = began }
+
+abbrev pub scan_end : Option ScanValue → AnswerEnd
+scan_end (Some (scan.Rows rows)) = end.Rows rows
+scan_end (Some (scan.Failed row column cause)) = end.ScanFailed 1 row column cause
+scan_end None = end.Memory
+
+-- a true note of a fresh scan of all columns
+abbrev pub fresh_note : Book → List ℕ → TableDecl → ℕ → ScanNote
+fresh_note book connection table asked = record {
+    request = plain_request connection table.name table.columns; asked = asked; at = asked; version = book.version connection asked; mark = Fresh }
+
+-- the walk of the table's list, at the version of the tick
+abbrev pub scanned : Book → List ℕ → TableDecl → ℕ → ℕ → Answer
+scanned book connection table began asked = record {
+    end = scan_end (scan_value book table (plain_request connection table.name table.columns) (book.version connection asked));
+    names = map (λ c. c.name) table.columns; kinds = map (λ c. c.kind) table.columns;
+    notes = fresh_note book connection table asked ∷ []; began = began }
+
+-- the place of the connection's name, and of the table's, in `select * from C.T`
+abbrev pub connection_place : ℕ
+connection_place = 14
+
+abbrev pub table_place : List ℕ → ℕ
+table_place connection = 15 + length connection
+
+abbrev pub by_table : Book → List ℕ → ℕ → ℕ → Option TableDecl → Answer
+by_table book connection began asked None = plain_answer began (end.Refused (fault.UnknownTable (table_place connection)))
+by_table book connection began asked (Some table) = scanned book connection table began asked
+
+abbrev pub by_tables : Book → List ℕ → List ℕ → ℕ → ℕ → Option (List TableDecl) → Answer
+by_tables book connection table began asked None = plain_answer began (end.Refused fault.NotYet)
+by_tables book connection table began asked (Some tables) = by_table book connection began asked (find_table table tables)
+
+-- where the line's connection is the one of the words
+abbrev pub by_names : Book → List ℕ → List ℕ → List ℕ → ℕ → ℕ → Answer
+by_names book name connection table began asked =
+    if bytes_eq connection name then by_tables book connection table began asked (plain_tables (book.declaration connection))
+    else plain_answer began (end.Refused (fault.UnknownConnection connection_place))
+
+abbrev pub by_line : Book → List ℕ → ℕ → ℕ → Option (List ℕ × List ℕ) → Answer
+by_line book name began asked None = plain_answer began (end.Refused fault.NotYet)
+by_line book name began asked (Some names) = by_names book name names.0 names.1 began asked
+
+-- the answer to an input by the book, where the statement began at one tick and asked the version at another: the first refusal, or the rows or failure of the scan
+abbrev pub answer_by : Book → List ℕ → List ℕ → ℕ → ℕ → Answer
+answer_by book name input began asked = by_line book name began asked (first_line input)
+
+-- a call of the connection is needed: the input is the one line, of that connection
+abbrev pub NeedsCall : List ℕ → Option (List ℕ × List ℕ) → Type 0
+NeedsCall name None = ⊥
+NeedsCall name (Some names) = names.0 ≡ name
+
+-- an answer is the defined one; or it ends by a spent restart budget or for want of memory, with the notes up to there
+abbrev pub IsAsDefined : List ℕ → List ℕ → Answer → AnswerEnd → Answer → Type 0
+IsAsDefined name input answer end.Memory defined = IsPrefix answer.notes defined.notes
+IsAsDefined name input answer (end.RestartsSpent connection losses) defined =
+    (connection ≡ name) × (losses ≡ 1) × NeedsCall name (first_line input) × IsPrefix answer.notes defined.notes
+IsAsDefined name input answer _ defined = answer ≡ defined
+
+pub record IsAnswer (book : Book) (name : List ℕ) (input : List ℕ) (answer : Answer) : Type 0 where
+  pub asked : ℕ
+  pub later : answer.began ≤ asked
+  pub defined : IsAsDefined name input answer answer.end (answer_by book name input answer.began asked)
+
+-- ---- what holds of children that tell nothing, too
+
+abbrev pub IsPastNames : AnswerEnd → Type 0
+IsPastNames (end.Refused (fault.UnknownConnection place)) = ⊥
+IsPastNames _ = Unit {0}
+
+-- the refusals that the input alone decides come exactly there, and take no memory
+abbrev pub IsByText : List ℕ → Answer → Option (List ℕ × List ℕ) → Type 0
+IsByText name answer None = answer ≡ plain_answer answer.began (end.Refused fault.NotYet)
+IsByText name answer (Some names) =
+    MatchBool (bytes_eq names.0 name) (IsPastNames answer.end) (answer ≡ plain_answer answer.began (end.Refused (fault.UnknownConnection connection_place)))
+
+-- the end is a spent restart budget, with this fact
+abbrev pub IfSpent : AnswerEnd → Type 0 → Type 0
+IfSpent (end.RestartsSpent connection losses) P = P
+IfSpent _ P = Unit {0}
