@@ -1,3 +1,4 @@
 pub mod Book
+pub mod Conditions
 pub mod Names
 pub mod Sayable

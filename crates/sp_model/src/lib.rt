@@ -2,12 +2,14 @@
 #![tactic(auto)]
 
 mod call;
+mod canonical;
 mod declaration;
 mod names;
 mod scan;
 mod settings;
 
 pub use call::{Asked, Call, CallKey, Condition, Conditions, Ending, Piece, Reply, Version};
+pub use canonical::{compare_conditions, is_canonical, is_scalar};
 pub use declaration::{
     AccessDecl, Backoff, ColumnDecl, Declaration, FunctionDecl, GetDecl, KeyDecl, ListDecl,
     Matching, Need, Patterns, Retry, Rule, TableDecl,
