@@ -1,4 +1,5 @@
 pub mod Book
+pub mod Conditions
 pub mod Fields
 pub mod Hydration
 pub mod Names

@@ -2,6 +2,7 @@
 #![tactic(auto)]
 
 mod call;
+mod canonical;
 mod declaration;
 mod names;
 mod outcome;
@@ -9,6 +10,7 @@ mod scan;
 mod settings;
 
 pub use call::{Asked, Call, CallKey, Condition, Conditions, Ending, Piece, Reply, Version};
+pub use canonical::{compare_conditions, is_canonical, is_scalar};
 pub use declaration::{
     AccessDecl, Backoff, ColumnDecl, Declaration, FunctionDecl, GetDecl, KeyDecl, ListDecl,
     Matching, Need, Patterns, Retry, Rule, TableDecl,
