@@ -2,6 +2,7 @@ pub mod Book
 pub mod Fields
 pub mod Hydration
 pub mod Names
+pub mod PlainList
 pub mod RowOf
 pub mod Sayable
 pub mod Settling
