@@ -1,6 +1,7 @@
 pub mod Book
 pub mod Fields
 pub mod Hydration
+pub mod Conditions
 pub mod Names
 pub mod PlainList
 pub mod RowOf

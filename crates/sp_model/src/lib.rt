@@ -2,6 +2,7 @@
 #![tactic(auto)]
 
 mod call;
+mod canonical;
 mod declaration;
 mod laws;
 mod names;
@@ -10,6 +11,7 @@ mod scan;
 mod settings;
 
 pub use call::{Asked, Call, CallKey, Condition, Conditions, Ending, Piece, Reply, Version};
+pub use canonical::{compare_conditions, is_canonical, is_scalar};
 pub use declaration::{
     AccessDecl, Backoff, ColumnDecl, Declaration, FunctionDecl, GetDecl, KeyDecl, ListDecl,
     Matching, Need, Patterns, Retry, Rule, TableDecl,
