@@ -1,5 +1,5 @@
 -- The scan of a plain table: its columns are fields of the item, and its list has no keys, parent or rules.
-use Rattle.std.specs.Prelude.{◌≡◌, ℕ, suc, Bool, true, List, [], ◌∷◌, map, Option, Some, None, is_none}
+use Rattle.std.specs.Prelude.{◌≡◌, ℕ, suc, Bool, true, List, [], ◌∷◌, map, Some, None, is_none}
 use Rattle.std.specs.List.{list_all}
 use Rattle.sp_value.specs.declared.cell.Cell.{Cell}
 use Rattle.sp_model.specs.Book.{Book}
@@ -88,4 +88,4 @@ abbrev pub PlainListIsItsItems : Type 0
 PlainListIsItsItems = (book : Book) (connection name : List ℕ) (columns : List ColumnDecl) (function : List ℕ) (version : ℕ)
     → list_all has_no_function columns ≡ true
     → scan_value book (plain_table name columns function) (plain_request connection name columns) (Is version)
-        ≡ Some (plain_value columns function (book.reply (plain_key connection version name)))
+    ≡ Some (plain_value columns function (book.reply (plain_key connection version name)))

@@ -4,6 +4,7 @@
 mod call;
 mod canonical;
 mod declaration;
+mod laws;
 mod names;
 mod outcome;
 mod scan;
@@ -15,6 +16,7 @@ pub use declaration::{
     AccessDecl, Backoff, ColumnDecl, Declaration, FunctionDecl, GetDecl, KeyDecl, ListDecl,
     Matching, Need, Patterns, Retry, Rule, TableDecl,
 };
+pub use laws::plain_list_is_its_items;
 pub use names::{is_connection_name, is_name, is_word};
 pub use outcome::{Outcome, Row, ScanValue, Settled};
 pub use scan::{Access, Cause, Mark, ScanNote, ScanNotes, ScanRequest, Seat};
