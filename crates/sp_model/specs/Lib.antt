@@ -2,7 +2,6 @@ pub mod Book
 pub mod Conditions
 pub mod Fields
 pub mod Hydration
-pub mod Conditions
 pub mod Names
 pub mod PlainList
 pub mod RowOf
