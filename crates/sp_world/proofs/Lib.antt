@@ -1,1 +1,4 @@
 mod LineTexts
+mod RequestTexts
+mod Calls
+mod OddNumbers

@@ -4,3 +4,4 @@ pub mod LineJson
 pub mod ReplyLines
 pub mod Told
 pub mod Fits
+pub mod RequestLines

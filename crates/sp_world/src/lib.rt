@@ -3,14 +3,19 @@
 
 mod line;
 mod line_json;
+mod operation;
 mod reply_lines;
+mod request_lines;
+mod request_reading;
 mod told;
 mod untold;
 mod world;
 
 pub use line::{Line, LineFault, Request};
 pub use line_json::{flag_at, number_at, read_json, spell, text_at};
-pub use reply_lines::reply_line;
+pub use reply_lines::{is_shallow_object, item_from, reply_line};
+pub use request_lines::request_line;
+pub use request_reading::read_request;
 pub use told::{Said, Told, ToldLine};
 pub use untold::Untold;
 pub use world::World;

@@ -1,16 +1,17 @@
-ghost use Rattle.std.specs.Prelude.{◌≡◌, ◌≤◌, Some, Ok, false, IfOk};
+ghost use Rattle.std.specs.Prelude.{◌≡◌, ◌≤◌, Some, Ok, false, IfOk, IfSome};
 ghost use Rattle.serde_json.specs.Data.{depth};
 ghost use Rattle.serde_json.specs.View.{view};
 ghost use Rattle.serde_json.specs.Read.{max_depth};
 ghost use Rattle.serde_json.specs.Written.{has_float};
 ghost use Rattle.sp_value.specs.Json.{has_odd_number};
-ghost use Rattle.sp_world.specs.ReplyLines.{seen, item_reply, reply_data, reply_text, line_of_data, line_of, IsLineForm, IsSpellable};
+ghost use Rattle.sp_world.specs.ReplyLines.{seen, item_reply, reply_data, reply_text, line_of_data, line_of, is_shallow_object, item_of, IsLineForm, IsSpellable};
 ghost use Rattle.sp_world.specs.ReplyLines as replies;
+ghost use Rattle.sp_model.specs.Sayable.{IsItem};
 
 use crate::line::Line;
 use crate::line_json::spell;
 use serde_json::{Value, json};
-use sp_value::{Memory, to_json};
+use sp_value::{Cell, CellFault, Memory, from_json, nests, to_json};
 use std::alloc::{AllocError, Global};
 
 /// The compact text of a reply line. A line of the protocol's form is read as itself again: its numbers are below 2^63, an item
@@ -44,7 +45,31 @@ fn line_json(alloc: Global, line: &Line) -> Result<Value, Memory>
     }
 }
 
-fn made(value: Result<Value, AllocError>) -> Result<Value, Memory>
+/// Whether JSON is an object that nests at most 100 deep.
+pub fn is_shallow_object(value: &Value) -> bool
+    ensures { result ≡ is_shallow_object (view value.now) }
+{
+    value.is_object() && nests(value, 100)
+}
+
+/// The item that JSON is: an object that nests at most 100 deep, whose numbers are integers of 64 bits with a sign.
+#[tactic(auto, using(crate::proofs::OddNumbers::odd_no_cell))]
+pub fn item_from(alloc: Global, value: &Value) -> Result<Option<Cell>, Memory>
+    ensures value { IfOk result (λ o. o ≡ item_of (view value.now)) }
+    ensures form { IfOk result (λ o. IfSome o IsItem) }
+{
+    if !is_shallow_object(value) {
+        return Ok(None);
+    }
+    match from_json(alloc, value) {
+        Ok(cell) => Ok(Some(cell)),
+        Err(CellFault::Memory) => Err(Memory),
+        Err(CellFault::Number) => Ok(None),
+        Err(CellFault::TooDeep) => unreachable!(),
+    }
+}
+
+pub(crate) fn made(value: Result<Value, AllocError>) -> Result<Value, Memory>
     ensures { IfOk result (λ v. value ≡ Ok v) }
 {
     match value {
