@@ -1,4 +1,4 @@
 mod LineTexts
 mod RequestTexts
 mod Calls
-mod OddNumbers
+pub mod OddNumbers

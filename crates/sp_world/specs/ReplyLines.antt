@@ -1,5 +1,5 @@
 -- Reply lines.
-use Rattle.std.specs.Prelude.{◌≡◌, ℕ, ◌^◌, ◌<◌, ◌&&◌, Bool, true, false, List, [], ◌∷◌, codes, nat_le, if◌then◌else◌, is_some, Option, Some, None, Result, option_and_then, option_map}
+use Rattle.std.specs.Prelude.{◌≡◌, ℕ, ◌^◌, ◌<◌, ◌&&◌, Bool, true, false, List, [], ◌∷◌, codes, nat_le, if◌then◌else◌, is_some, Option, Some, None, Result, Ok, Err, option_and_then, option_map}
 use Rattle.serde_json.specs.Data.{Data, boolean, number, string, object, unsigned, no_members, member, depth}
 use Rattle.serde_json.specs.Find.{get, as_object}
 use Rattle.serde_json.specs.View.{view}
@@ -11,6 +11,7 @@ use Rattle.sp_world.specs.LineJson.{read_as, text_at, number_at, flag_at}
 use Rattle.sp_world.specs.declared.line.Line.{Line}
 use Rattle.sp_world.specs.declared.line.Line.TheVariants as line
 use Rattle.sp_world.specs.declared.line.LineFault.{LineFault}
+use Rattle.sp_world.specs.declared.line.LineFault.TheVariants.{Memory}
 
 -- the number of a call, and its next item, the end of its reply, an error, a version or a declaration
 pub data ReplyLine : Type 0 where
@@ -109,3 +110,9 @@ IsLineForm (End id) = id < 2 ^ 63
 IsLineForm (Error id text) = id < 2 ^ 63
 IsLineForm (Version id v) = (id < 2 ^ 63) × (v < 2 ^ 63)
 IsLineForm (Declaration id d) = (id < 2 ^ 63) × IsSayableDeclaration d
+
+-- a line of the program says what is read, unless memory is wanting
+abbrev pub SaysUnlessMemory : Result Line LineFault → Result ReplyLine LineFault → Type 0
+SaysUnlessMemory (Ok l) r = r ≡ Ok (seen l)
+SaysUnlessMemory (Err Memory) r = Unit {0}
+SaysUnlessMemory (Err fault) r = r ≡ Err fault

@@ -1,4 +1,4 @@
-ghost use Rattle.std.specs.Prelude.{◌≡◌, ◌≤◌, Some, false, IfOk, MatchResult};
+ghost use Rattle.std.specs.Prelude.{◌≡◌, ◌≤◌, ◌<◌, ◌^◌, Some, false, IfOk, IfSome, MatchResult};
 ghost use Rattle.serde_json.specs.Data.{depth};
 ghost use Rattle.serde_json.specs.View.{view};
 ghost use Rattle.serde_json.specs.Read.{max_depth};
@@ -49,9 +49,11 @@ pub fn text_at(alloc: Global, value: &Value, name: &str) -> Result<Option<Text>,
     }
 }
 
-/// The natural number under a name, if there is one.
+/// The natural number under a name, if there is one. Where the JSON has integers of 64 bits with a sign alone, it is below 2^63.
+#[tactic(auto, using(crate::proofs::OddNumbers::number_below))]
 pub fn number_at(value: &Value, name: &str) -> Option<u64>
-    ensures { result ≡ number_at name.now (view value.now) }
+    ensures value { result ≡ number_at name.now (view value.now) }
+    ensures below { IfSome result (λ n. has_odd_number (view value.now) ≡ false → n < 2 ^ 63) }
 {
     value.get(name).and_then(Value::as_u64)
 }
