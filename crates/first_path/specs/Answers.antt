@@ -9,6 +9,7 @@ use Rattle.sp_model.specs.declared.outcome.ScanValue.{ScanValue}
 use Rattle.sp_model.specs.declared.outcome.ScanValue.TheVariants as scan
 use Rattle.sp_model.specs.declared.scan.Mark.TheVariants.{Fresh}
 use Rattle.sp_model.specs.declared.scan.ScanNote.{ScanNote}
+use Rattle.sp_outside.specs.declared.log.Loss.{Loss}
 use Rattle.first_path.specs.FirstLine.{first_line}
 use Rattle.first_path.specs.Plain.{plain_tables, find_table}
 use Rattle.first_path.specs.declared.answer.Answer.{Answer}
@@ -75,8 +76,8 @@ NeedsCall name (Some names) = names.0 ≡ name
 -- an answer is the defined one; or it ends by a spent restart budget or for want of memory, with the notes up to there
 abbrev pub IsAsDefined : List ℕ → List ℕ → Answer → AnswerEnd → Answer → Type 0
 IsAsDefined name input answer end.Memory defined = IsPrefix answer.notes defined.notes
-IsAsDefined name input answer (end.RestartsSpent connection losses) defined =
-    (connection ≡ name) × (losses ≡ 1) × NeedsCall name (first_line input) × IsPrefix answer.notes defined.notes
+IsAsDefined name input answer (end.RestartsSpent connection loss) defined =
+    (connection ≡ name) × NeedsCall name (first_line input) × IsPrefix answer.notes defined.notes
 IsAsDefined name input answer _ defined = answer ≡ defined
 
 pub record IsAnswer (book : Book) (name : List ℕ) (input : List ℕ) (answer : Answer) : Type 0 where
@@ -96,7 +97,7 @@ IsByText name answer None = answer ≡ plain_answer answer.began (end.Refused fa
 IsByText name answer (Some names) =
     MatchBool (bytes_eq names.0 name) (IsPastNames answer.end) (answer ≡ plain_answer answer.began (end.Refused (fault.UnknownConnection connection_place)))
 
--- the end is a spent restart budget, with this fact
-abbrev pub IfSpent : AnswerEnd → Type 0 → Type 0
-IfSpent (end.RestartsSpent connection losses) P = P
+-- the end is a spent restart budget, with this fact of its loss
+abbrev pub IfSpent : AnswerEnd → (Loss → Type 0) → Type 0
+IfSpent (end.RestartsSpent connection loss) P = P loss
 IfSpent _ P = Unit {0}

@@ -1,4 +1,5 @@
 pub mod Answers
+pub mod Asking
 pub mod FirstLine
 pub mod Plain
 pub mod PlainScan

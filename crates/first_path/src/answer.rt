@@ -1,4 +1,5 @@
 use sp_model::{Cause, ScanNotes};
+use sp_outside::Loss;
 use sp_value::{Kinds, Rows, Text, Texts};
 
 /// Why a statement is refused. Places are bytes from 0 in the statement's text.
@@ -9,7 +10,7 @@ pub enum BlockFault {
     UnknownTable { place: u64 },
 }
 
-/// How a statement ends. Scans count from 1; a row is the walk's number of it, 0 for a version; a list that fails has no column.
+/// How a statement ends. Scans count from 1; a row is the walk's number of it, 0 for a version; a list that fails has no column. A spent restart budget has the one loss that spent it.
 #[derive(Drop)]
 pub enum AnswerEnd {
     Rows(Rows),
@@ -22,7 +23,7 @@ pub enum AnswerEnd {
     },
     RestartsSpent {
         connection: Text,
-        losses: u32,
+        loss: Loss,
     },
     Memory,
 }
