@@ -1,22 +1,35 @@
 //! The outside as traits: where bytes are read and written, files, a clock, children that answer calls; and each of them in memory.
 #![tactic(auto)]
 
+mod book_child;
+mod book_log;
+mod book_nursery;
+mod child;
 mod clock;
 mod failing;
+mod log;
 mod memory_clock;
 mod memory_shelf;
 mod memory_sink;
 mod memory_source;
+mod nursery;
 mod shelf;
 mod sink;
 mod source;
+#[cfg(test)]
+mod tests;
 
+pub use book_child::BookChild;
+pub use book_nursery::BookNursery;
+pub use child::{Child, ChildEnd};
 pub use clock::{Clock, ClockPass};
 pub use failing::Failed;
+pub use log::{Event, Loss, OpenCall, PendingCalls};
 pub use memory_clock::MemoryClock;
 pub use memory_shelf::MemoryShelf;
 pub use memory_sink::MemorySink;
 pub use memory_source::MemorySource;
+pub use nursery::Nursery;
 pub use shelf::{Shelf, ShelfEnd};
 pub use sink::{Sink, write_all};
 pub use source::{ReadEnd, Source, read_to_limit};
