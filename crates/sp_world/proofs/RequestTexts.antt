@@ -1,6 +1,6 @@
 -- What requests read as.
 use Rattle.std.proofs.Common.{rules, ◌≡◌, ◌≤◌, ℕ, ℤ, suc, max, Bool, true, false, ◌&&◌, ◌||◌, List, [], ◌∷◌, ◌++◌, map, take, length, Option, Some, None, option_map, is_some, nat_le, refl, sym, ap, ◌∙◌, subst, arith}
-use Rattle.std.proofs.lemmas.Bool.{le-leb}
+use Rattle.std.proofs.lemmas.Bool.{le-leb, leb-true, and_parts}
 use Rattle.std.proofs.lemmas.List.{take_all}
 use Rattle.serde_json.specs.Data.{Data, null, boolean, number, string, array, object, Items, no_items, item, Members, no_members, member, depth, items_depth, members_depth}
 use Rattle.serde_json.specs.Find.{as_i64}
@@ -9,7 +9,7 @@ use Rattle.serde_json.specs.Written.{has_float, items_have_float}
 use Rattle.serde_json.specs.declared.value.Value.{Value}
 use Rattle.sp_value.specs.Json.{has_odd_number, items_odd, cell_of, cells_of, pairs_of, data_of}
 use Rattle.sp_value.specs.Depth as values
-use Rattle.sp_value.proofs.Computing.{cells, folded}
+use Rattle.sp_value.proofs.Computing.{cells, depth-Null}
 use Rattle.sp_value.proofs.JsonLaws.{whole_of_cell, no_float_of_cell, depth_of_cell, some_list, some_object, some_member, some_number, or_false}
 use Rattle.sp_value.specs.declared.cell.Cell.{Cell}
 use Rattle.sp_value.specs.declared.cell.Cell as c
@@ -182,3 +182,23 @@ conditions_whole vs ks w = rw w.same (list_whole ks w.back)
 
 pub conditions_depth : (vs : List Value) (ks : List Condition) → Written vs ks → is_canonical ks ≡ true → depth (array (items_view vs)) ≤ 2
 conditions_depth vs ks w s = omega (arith, list_depth ks w.back s, ap items_depth w.same)
+
+-- ---- what is read has the form
+
+result_form : (d : Data) (x : Cell) → cell_of d ≡ Some x → is_result d ≡ true → IsResultForm x
+unfolding cells
+result_form null x h r = let e : c.Null ≡ x = cc in subst IsResultForm e (tt, omega (arith, depth-Null))
+result_form (boolean b) x h r = absurd (cc)
+result_form (number n) x h r = absurd (cc)
+result_form (string s) x h r = absurd (cc)
+result_form (array ds) x h r = absurd (cc)
+result_form (object ms) x h r =
+    let o = some_object (pairs_of ms) x h in
+    (subst (λ (y : Cell). IsNullOrObject_at (out-Cell y)) o.2 tt, omega (arith, depth_of_cell (object ms) x h, leb-true (depth (object ms)) 100 r))
+
+pub results_form : (md : Members) (ms : List (List ℕ × Cell)) → pairs_of md ≡ Some ms → are_results md ≡ true → AreResults ms
+results_form no_members ms h r = let e : [] ≡ ms = cc in subst AreResults e tt
+results_form (member k d md) ms h r =
+    let s = some_member k (cell_of d) (pairs_of md) ms h in
+    let b = and_parts (is_result d) (are_results md) r in
+    subst AreResults s.4 (result_form d s.0 s.2 b.0, results_form md s.1 s.3 b.1)

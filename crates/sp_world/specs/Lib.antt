@@ -5,3 +5,4 @@ pub mod ReplyLines
 pub mod Told
 pub mod Fits
 pub mod RequestLines
+pub mod Kept

@@ -1,6 +1,7 @@
 //! The reply book and what is told of it, and the lines between a child and its caller.
 #![tactic(auto)]
 
+mod kept;
 mod line;
 mod line_json;
 mod operation;
@@ -11,6 +12,7 @@ mod told;
 mod untold;
 mod world;
 
+pub use kept::Kept;
 pub use line::{Line, LineFault, Request};
 pub use line_json::{flag_at, number_at, read_json, spell, text_at};
 pub use reply_lines::{is_shallow_object, item_from, reply_line};

@@ -1,9 +1,12 @@
-ghost use Rattle.std.specs.Prelude.{◌≡◌, Some, Ok, IfOk, codes, option_and_then, option_map};
+ghost use Rattle.std.specs.Prelude.{◌≡◌, ◌<◌, ◌^◌, ℕ, List, Some, Ok, true, false, IfOk, IfSome, codes, option_and_then, option_map};
 ghost use Rattle.serde_json.specs.Find.{at};
 ghost use Rattle.serde_json.specs.View.{view, items_view, members_view};
 ghost use Rattle.sp_model.specs.declared.call.Call.TheVariants as call;
+ghost use Rattle.sp_value.specs.Json.{has_odd_number};
+ghost use Rattle.sp_model.specs.Conditions.{is_canonical};
+ghost use Rattle.sp_model.specs.Sayable.{IsItem};
 ghost use Rattle.sp_world.specs.LineJson.{IsUnlessMemory, shaped, text_at, number_at};
-ghost use Rattle.sp_world.specs.RequestLines.{request_of, members_request, request_by, call_from, call_of, conditions_at, parent_at, item_at, results_at, conditions_of, parent_of, results_of, are_results, is_result, condition_of, scalar_of, operator_of, operation_of, text_in, attempt_at, if_spelled, list_from, hydrate_from, condition_list};
+ghost use Rattle.sp_world.specs.RequestLines.{request_of, members_request, request_by, call_from, call_of, conditions_at, parent_at, item_at, results_at, conditions_of, parent_of, results_of, are_results, is_result, condition_of, scalar_of, operator_of, operation_of, text_in, attempt_at, if_spelled, list_from, hydrate_from, condition_list, IsRequestForm, IsCallForm, IsParentForm, AreResults};
 
 use crate::line::{LineFault, Request};
 use crate::line_json::{number_at, read_json, text_at};
@@ -19,6 +22,7 @@ use std::alloc::Global;
 /// The request whose one spelling a line is.
 pub fn read_request(alloc: Global, line: &[u8]) -> Result<Request, LineFault>
     ensures answer { IsUnlessMemory result (request_of line.now) }
+    ensures form { IfOk result (λ r. IsRequestForm r) }
 {
     let value = read_json(alloc, line)?;
     match members_request(alloc, &value) {
@@ -29,7 +33,8 @@ pub fn read_request(alloc: Global, line: &[u8]) -> Result<Request, LineFault>
 }
 
 fn spelled_request(alloc: Global, line: &[u8], request: Request) -> Result<Request, LineFault>
-    ensures { IsUnlessMemory result (shaped (if_spelled line.now request)) }
+    ensures answer { IsUnlessMemory result (shaped (if_spelled line.now request)) }
+    ensures same { IfOk result (λ r. r ≡ request) }
 {
     match request_line(alloc, &request) {
         Ok(text) => if text.as_slice() == line {
@@ -43,7 +48,9 @@ fn spelled_request(alloc: Global, line: &[u8], request: Request) -> Result<Reque
 
 /// The request whose members an object has.
 fn members_request(alloc: Global, value: &Value) -> Result<Option<Request>, Memory>
-    ensures { IfOk result (λ r. r ≡ members_request (view value.now)) }
+    requires { has_odd_number (view value.now) ≡ false }
+    ensures value { IfOk result (λ r. r ≡ members_request (view value.now)) }
+    ensures form { IfOk result (λ o. IfSome o IsRequestForm) }
 {
     let Some(operation) = operation_at(value) else {
         return Ok(None);
@@ -94,7 +101,10 @@ fn request_by(
     connection: Text,
     value: &Value,
 ) -> Result<Option<Request>, Memory>
-    ensures { IfOk result (λ r. r ≡ request_by operation id connection (view value.now)) }
+    requires whole { has_odd_number (view value.now) ≡ false }
+    requires below { id < 2 ^ 63 }
+    ensures value { IfOk result (λ r. r ≡ request_by operation id connection (view value.now)) }
+    ensures form { IfOk result (λ o. IfSome o IsRequestForm) }
 {
     match operation {
         Operation::Declare => Ok(Some(Request::Ask {
@@ -111,7 +121,10 @@ fn request_by(
 }
 
 fn version_request(id: u64, connection: Text, value: &Value) -> Option<Request>
-    ensures { result ≡ request_by Operation.Version id connection (view value.now) }
+    requires whole { has_odd_number (view value.now) ≡ false }
+    requires below { id < 2 ^ 63 }
+    ensures value { result ≡ request_by Operation.Version id connection (view value.now) }
+    ensures form { IfSome result IsRequestForm }
 {
     match number_at(value, "tick") {
         Some(tick) => Some(Request::Ask {
@@ -143,7 +156,10 @@ fn call_request(
     connection: Text,
     value: &Value,
 ) -> Result<Option<Request>, Memory>
-    ensures { IfOk result (λ r. r ≡ call_from operation id connection (view value.now) (text_at (codes "table") (view value.now)) (text_at (codes "function") (view value.now)) (number_at (codes "version") (view value.now)) (attempt_at (view value.now))) }
+    requires whole { has_odd_number (view value.now) ≡ false }
+    requires below { id < 2 ^ 63 }
+    ensures form { IfOk result (λ o. IfSome o IsRequestForm) }
+    ensures value { IfOk result (λ r. r ≡ call_from operation id connection (view value.now) (text_at (codes "table") (view value.now)) (text_at (codes "function") (view value.now)) (number_at (codes "version") (view value.now)) (attempt_at (view value.now))) }
 {
     let Some(table) = text_at(alloc, value, "table")? else {
         return Ok(None);
@@ -179,19 +195,27 @@ fn call_of(
     function: &Text,
     value: &Value,
 ) -> Result<Option<Call>, Memory>
-    ensures { IfOk result (λ c. c ≡ call_of operation table function.now (view value.now)) }
+    ensures value { IfOk result (λ c. c ≡ call_of operation table function.now (view value.now)) }
+    ensures form { IfOk result (λ o. IfSome o (IsCallForm (Some function.now))) }
 {
     match operation {
-        Operation::List => list_call(alloc, table, value),
+        Operation::List => {
+            let call = list_call(alloc, table, value)?;
+            Ok(call)
+        }
         Operation::Parents => Ok(Some(Call::Parents { table })),
-        Operation::Get => get_call(alloc, table, value),
+        Operation::Get => {
+            let call = get_call(alloc, table, value)?;
+            Ok(call)
+        }
         Operation::Hydrate => hydrate_call(alloc, table, function, value),
         _ => Ok(None),
     }
 }
 
 fn list_call(alloc: Global, table: Text, value: &Value) -> Result<Option<Call>, Memory>
-    ensures { IfOk result (λ c. c ≡ list_from table (conditions_at (view value.now)) (parent_at (view value.now))) }
+    ensures value { IfOk result (λ c. c ≡ list_from table (conditions_at (view value.now)) (parent_at (view value.now))) }
+    ensures form { IfOk result (λ o. (function : List ℕ) → IfSome o (IsCallForm (Some function))) }
 {
     let Some(conditions) = conditions_at(alloc, value)? else {
         return Ok(None);
@@ -207,7 +231,8 @@ fn list_call(alloc: Global, table: Text, value: &Value) -> Result<Option<Call>, 
 }
 
 fn get_call(alloc: Global, table: Text, value: &Value) -> Result<Option<Call>, Memory>
-    ensures { IfOk result (λ c. c ≡ option_map (call.Get table) (conditions_at (view value.now))) }
+    ensures value { IfOk result (λ c. c ≡ option_map (call.Get table) (conditions_at (view value.now))) }
+    ensures form { IfOk result (λ o. (function : List ℕ) → IfSome o (IsCallForm (Some function))) }
 {
     let Some(conditions) = conditions_at(alloc, value)? else {
         return Ok(None);
@@ -221,7 +246,8 @@ fn hydrate_call(
     function: &Text,
     value: &Value,
 ) -> Result<Option<Call>, Memory>
-    ensures { IfOk result (λ c. c ≡ hydrate_from table function.now (item_at (view value.now)) (results_at (view value.now))) }
+    ensures value { IfOk result (λ c. c ≡ hydrate_from table function.now (item_at (view value.now)) (results_at (view value.now))) }
+    ensures form { IfOk result (λ o. IfSome o (IsCallForm (Some function.now))) }
 {
     let Some(item) = item_at(alloc, value)? else {
         return Ok(None);
@@ -238,7 +264,8 @@ fn hydrate_call(
 }
 
 fn conditions_at(alloc: Global, value: &Value) -> Result<Option<Conditions>, Memory>
-    ensures { IfOk result (λ o. o ≡ conditions_at (view value.now)) }
+    ensures value { IfOk result (λ o. o ≡ conditions_at (view value.now)) }
+    ensures form { IfOk result (λ o. IfSome o (λ cs. is_canonical cs ≡ true)) }
 {
     match value.get("conditions") {
         Some(found) => {
@@ -250,7 +277,8 @@ fn conditions_at(alloc: Global, value: &Value) -> Result<Option<Conditions>, Mem
 }
 
 fn parent_at(alloc: Global, value: &Value) -> Result<Option<Option<Cell>>, Memory>
-    ensures { IfOk result (λ o. o ≡ parent_at (view value.now)) }
+    ensures value { IfOk result (λ o. o ≡ parent_at (view value.now)) }
+    ensures form { IfOk result (λ o. IfSome o IsParentForm) }
 {
     match value.get("parent") {
         Some(found) => {
@@ -262,7 +290,8 @@ fn parent_at(alloc: Global, value: &Value) -> Result<Option<Option<Cell>>, Memor
 }
 
 fn item_at(alloc: Global, value: &Value) -> Result<Option<Cell>, Memory>
-    ensures { IfOk result (λ o. o ≡ item_at (view value.now)) }
+    ensures value { IfOk result (λ o. o ≡ item_at (view value.now)) }
+    ensures form { IfOk result (λ o. IfSome o IsItem) }
 {
     match value.get("item") {
         Some(found) => {
@@ -274,7 +303,8 @@ fn item_at(alloc: Global, value: &Value) -> Result<Option<Cell>, Memory>
 }
 
 fn results_at(alloc: Global, value: &Value) -> Result<Option<Members>, Memory>
-    ensures { IfOk result (λ o. o ≡ results_at (view value.now)) }
+    ensures value { IfOk result (λ o. o ≡ results_at (view value.now)) }
+    ensures form { IfOk result (λ o. IfSome o AreResults) }
 {
     match value.get("results") {
         Some(found) => {
@@ -286,7 +316,8 @@ fn results_at(alloc: Global, value: &Value) -> Result<Option<Members>, Memory>
 }
 
 fn conditions_of(alloc: Global, value: &Value) -> Result<Option<Conditions>, Memory>
-    ensures { IfOk result (λ o. o ≡ conditions_of (view value.now)) }
+    ensures value { IfOk result (λ o. o ≡ conditions_of (view value.now)) }
+    ensures form { IfOk result (λ o. IfSome o (λ cs. is_canonical cs ≡ true)) }
 {
     let Value::Array(values) = value else {
         return Ok(None);
@@ -399,7 +430,8 @@ fn scalar_of(alloc: Global, value: &Value) -> Result<Option<Cell>, Memory>
 }
 
 fn parent_of(alloc: Global, value: &Value) -> Result<Option<Option<Cell>>, Memory>
-    ensures { IfOk result (λ o. o ≡ parent_of (view value.now)) }
+    ensures value { IfOk result (λ o. o ≡ parent_of (view value.now)) }
+    ensures form { IfOk result (λ o. IfSome o IsParentForm) }
 {
     match value {
         Value::Null => Ok(Some(None)),
@@ -410,9 +442,10 @@ fn parent_of(alloc: Global, value: &Value) -> Result<Option<Option<Cell>>, Memor
     }
 }
 
-#[tactic(auto, using(crate::proofs::OddNumbers::odd_no_pairs))]
+#[tactic(auto, using(crate::proofs::OddNumbers::odd_no_pairs, crate::proofs::RequestTexts::results_form))]
 fn results_of(alloc: Global, value: &Value) -> Result<Option<Members>, Memory>
-    ensures { IfOk result (λ o. o ≡ results_of (view value.now)) }
+    ensures value { IfOk result (λ o. o ≡ results_of (view value.now)) }
+    ensures form { IfOk result (λ o. IfSome o AreResults) }
 {
     let Value::Object(members) = value else {
         return Ok(None);
