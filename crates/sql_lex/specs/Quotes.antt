@@ -1,0 +1,18 @@
+-- What stands between quotes.
+use Rattle.std.specs.Prelude.{ℕ, ◌+◌, Bool, true, false, if◌then◌else◌, ◌==◌, List, [], ◌∷◌, Option, Some, None}
+
+abbrev pub more : ℕ → ℕ → Option (List ℕ × ℕ) → Option (List ℕ × ℕ)
+more b n None = None
+more b n (Some found) = Some (b ∷ found.0, n + found.1)
+
+abbrev pub more_bytes : ℕ → Option (List ℕ × ℕ) → Option (List ℕ × ℕ)
+more_bytes n None = None
+more_bytes n (Some found) = Some (found.0, n + found.1)
+
+-- What stands before the closing quote, and how many bytes go with it, the quote too. A quote that is followed by a quote closes
+-- nothing: both are one. True says that the byte before is a quote whose second may come.
+abbrev pub closed : Bool → ℕ → List ℕ → Option (List ℕ × ℕ)
+closed false quote [] = None
+closed true quote [] = Some ([], 0)
+closed false quote (b ∷ z) = if b == quote then more_bytes 1 (closed true quote z) else more b 1 (closed false quote z)
+closed true quote (b ∷ z) = if b == quote then more quote 1 (closed false quote z) else Some ([], 0)
