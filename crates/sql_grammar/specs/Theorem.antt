@@ -15,7 +15,8 @@ depth = 64
 
 -- Why reading stops before the rest: too deep, where a statement one level deeper goes on so; else no statement goes on so, or is over.
 abbrev pub Refused : Bool → List Token → List Token → Type 0
-Refused deep before [] = (n : ℕ) (s : Statement) → StatementPhrase n before s → ⊥
+Refused true before [] = ⊥
+Refused false before [] = (n : ℕ) (s : Statement) → StatementPhrase n before s → ⊥
 Refused true before (t ∷ rest) = (Begins depth (before ++ t ∷ []) → ⊥) × Begins 65 (before ++ t ∷ [])
 Refused false before (t ∷ rest) = (n : ℕ) → Begins n (before ++ t ∷ []) → ⊥
 
