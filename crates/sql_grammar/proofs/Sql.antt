@@ -66,8 +66,8 @@ name_laws = laws_of (one say.name (k.Name ∷ []) (record { kind = k.Name; value
 abbrev name : Rule Name
 name = named name_laws
 
-limit_number_laws : Laws (One say.limit) (One say.limit) (one_at say.limit) (k.Number ∷ []) [] false
-limit_number_laws = laws_of (one say.limit (k.Number ∷ []) (record { kind = k.Number; value = v.Number (pos 0); place = 0 }) 0 refl (λ t x h. has_one k.Number t (accepted_kind (same t.kind k.Number) (say.limit_by t.value) x h))) _ _ refl refl
+limit_number_laws : Laws (One say.number) (One say.number) (one_at say.number) (k.Number ∷ []) [] false
+limit_number_laws = laws_of (one say.number (k.Number ∷ []) (record { kind = k.Number; value = v.Number (pos 0); place = 0 }) 0 refl (λ t x h. has_one k.Number t (accepted_kind (same t.kind k.Number) (say.limit_by t.value) x h))) _ _ refl refl
 
 abbrev limit_number : Rule ℕ
 limit_number = named limit_number_laws

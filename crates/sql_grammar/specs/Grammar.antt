@@ -115,7 +115,7 @@ OrderPhrase = Made say.order (Maybe (After k.Order (After k.By (Made say.listed 
 
 -- [ limit number ]
 abbrev pub LimitPhrase : Lang (Option ℕ)
-LimitPhrase = Maybe (After k.Limit (One say.limit))
+LimitPhrase = Maybe (After k.Limit (One say.number))
 
 -- statement = select items from source { [inner] join source on expr } [ where expr ] [ order by key { , key } ] [ limit number ] [ ; ]
 unfoldable pub StatementPhrase : ℕ → Lang Statement

@@ -132,7 +132,7 @@ unfoldable pub order_at : Parser (List Key)
 order_at = made_at say.order (maybe_at (k.Order ∷ []) (after_at k.Order (after_at k.By (made_at say.listed (listed_at k.Comma key_at)))))
 
 unfoldable pub limit_at : Parser (Option ℕ)
-limit_at = maybe_at (k.Limit ∷ []) (after_at k.Limit (one_at say.limit))
+limit_at = maybe_at (k.Limit ∷ []) (after_at k.Limit (one_at say.number))
 
 unfoldable pub semi_at : Parser (Option (Unit {0}))
 semi_at = maybe_at (k.Semi ∷ []) (word_at k.Semi)

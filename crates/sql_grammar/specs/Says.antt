@@ -1,5 +1,5 @@
 -- What a token says, and what a phrase says by its parts.
-use Rattle.std.specs.Prelude.{ℕ, pos, negsuc, Bool, true, false, if◌then◌else◌, List, [], ◌∷◌, Option, Some, None}
+use Rattle.std.specs.Prelude.{ℕ, ℤ, pos, negsuc, Bool, true, false, if◌then◌else◌, nat_lt, List, [], ◌∷◌, Option, Some, None}
 use Rattle.sql_lex.specs.declared.token.Kind.{Kind}
 use Rattle.sql_lex.specs.declared.token.Kind.TheVariants as k
 use Rattle.sql_lex.specs.declared.token.Value.{Value}
@@ -23,6 +23,7 @@ use Rattle.sql_grammar.specs.declared.ast.Source.{Source}
 use Rattle.sql_grammar.specs.declared.ast.Join.{Join}
 use Rattle.sql_grammar.specs.declared.ast.Key.{Key}
 use Rattle.sql_grammar.specs.declared.ast.Statement.{Statement}
+use Rattle.sql_lex.specs.Lex.{limit}
 use Rattle.sql_grammar.specs.Reading.{same}
 
 -- a reserved word or a sign
@@ -43,16 +44,21 @@ name t = if same t.kind k.Name then name_by t.value t.place else None
 abbrev pub limit_by : Value → Option ℕ
 limit_by v.Fixed = None
 limit_by (v.Text bytes) = None
-limit_by (v.Number (pos n)) = Some n
+limit_by (v.Number (pos n)) = if nat_lt n limit then Some n else None
 limit_by (v.Number (negsuc n)) = None
 
-abbrev pub limit : Token → Option ℕ
-limit t = if same t.kind k.Number then limit_by t.value else None
+abbrev pub number : Token → Option ℕ
+number t = if same t.kind k.Number then limit_by t.value else None
+
+-- a number of 64 bits
+abbrev pub in_range : ℤ → Bool
+in_range (pos n) = nat_lt n limit
+in_range (negsuc n) = nat_lt n limit
 
 abbrev pub int_by : Value → Option Constant
 int_by v.Fixed = None
 int_by (v.Text bytes) = None
-int_by (v.Number n) = Some (c.Int n)
+int_by (v.Number n) = if in_range n then Some (c.Int n) else None
 
 abbrev pub text_by : Value → Option Constant
 text_by v.Fixed = None

@@ -96,7 +96,7 @@ fn limit_by(value: &Value) -> Option<u64>
 }
 
 fn limit_of(token: &Token) -> Option<u64>
-    ensures { result ≡ say.limit token.now }
+    ensures { result ≡ say.number token.now }
 {
     if token.kind == Kind::Number {
         limit_by(&token.value)
@@ -106,7 +106,7 @@ fn limit_of(token: &Token) -> Option<u64>
 }
 
 fn number<'a>(tokens: &'a [Token]) -> Result<(u64, &'a [Token]), Stop<'a>>
-    ensures { Gives (λ x. (x.0, x.1.now)) result (one_at say.limit tokens.now) }
+    ensures { Gives (λ x. (x.0, x.1.now)) result (one_at say.number tokens.now) }
 {
     match tokens {
         [] => Err(Stop::Fault {
