@@ -2,12 +2,8 @@
 use Rattle.std.proofs.Common.{◌≡◌, ℕ, suc, ◌+◌, Bool, true, false, cond, eqb, List, [], ◌∷◌, ◌++◌, length, Some, refl, sym, ap, ◌∙◌, ◌⊎◌, inl, inr, arith, eq-eqb, eqb-true}
 use Rattle.std.proofs.Common.{take_while}
 use Rattle.std.proofs.lemmas.List.Sums.{take_while-cons}
-use Rattle.sql_lex.specs.Quotes.{closed, more, more_bytes}
-
--- each quote twice
-abbrev pub doubled : ℕ → List ℕ → List ℕ
-doubled quote [] = []
-doubled quote (b ∷ bs) = cond (eqb b quote) (quote ∷ quote ∷ doubled quote bs) (b ∷ doubled quote bs)
+use Rattle.sql_lex.specs.Quotes.{closed, more, more_bytes, doubled}
+use Rattle.sql_lex.specs.Lex.{all_pass}
 
 -- the text does not go on with a quote
 abbrev pub NoQuote : ℕ → List ℕ → Type 0
@@ -45,10 +41,6 @@ closed_again quote (b ∷ bs) rest h =
 abbrev pub Past : (ℕ → Bool) → List ℕ → Type 0
 Past p [] = Unit {0}
 Past p (c ∷ rest) = p c ≡ false
-
-abbrev pub all_pass : (ℕ → Bool) → List ℕ → Bool
-all_pass p [] = true
-all_pass p (b ∷ bs) = cond (p b) (all_pass p bs) false
 
 -- a word is the longest run of its bytes again, whatever follows that is none of them
 pub run_again : (p : ℕ → Bool) (word rest : List ℕ) → all_pass p word ≡ true → Past p rest → take_while p (word ++ rest) ≡ word

@@ -1,10 +1,10 @@
 -- What is quoted in a text is text.
 use Rattle.std.proofs.Common.{◌≡◌, ℕ, zero, suc, ◌+◌, ◌-◌, ◌<◌, ◌≤◌, ◌/◌, Bool, true, false, ◌&&◌, cond, eqb, ltb, List, [], ◌∷◌, ◌++◌, length, drop, take, get_or, Option, Some, None, refl, sym, ap, subst, append_assoc, append-nil, arith, ◌⊎◌, inl, inr, eqb-true, take_all, length-drop}
-use Rattle.std.proofs.lemmas.Bool.{le-ltb, ne_eqb}
+use Rattle.std.proofs.lemmas.Bool.{le-ltb, lt-ltb, ne_eqb}
 use Rattle.std.specs.Str.{IsUtf8}
 use Rattle.std.proofs.lemmas.Str.{IsUtf8-nil, IsUtf8-drop, IsCharBoundary-after_ascii, encode_ascii}
 use Rattle.std.proofs.Math.Utf8.{encode, encodes, scalar, scalars, next}
-use Rattle.sql_lex.specs.Quotes.{closed, more, more_bytes}
+use Rattle.sql_lex.specs.Quotes.{closed, more, more_bytes, doubled, quoted}
 
 -- no byte is ASCII
 abbrev AllHigh : List ℕ → Type 0
@@ -117,3 +117,36 @@ after_quote z b lt u is low =
     let text : IsUtf8 (drop 1 z) = IsUtf8-drop z 1 u boundary in
     let same : take (length z - 1) (drop 1 z) ≡ drop 1 z = rw (← length-drop 1 z) (take_all (length (drop 1 z)) (drop 1 z) (omega arith)) in
     subst IsUtf8 (sym same) text
+
+-- ---- what is put between quotes
+
+doubled_high : (quote : ℕ) (w rest : List ℕ) → quote < 128 → AllHigh w → doubled quote (w ++ rest) ≡ w ++ doubled quote rest
+doubled_high quote [] rest q h = refl
+doubled_high quote (b ∷ w) rest q h = rw (not_quote quote b q h.0) (ap (λ (bs : List ℕ). b ∷ bs) (doubled_high quote w rest q h.1))
+
+add_char : (c : ℕ) (bs : List ℕ) → scalar c ≡ true → IsUtf8 bs → IsUtf8 (encode c ++ bs)
+add_char c bs s u = (c ∷ u.0, (rw s u.1.0, ap (λ (xs : List ℕ). encode c ++ xs) u.1.1))
+
+low_scalar : (b : ℕ) → b < 128 → scalar b ≡ true
+low_scalar b low = rw (lt-ltb b 55296 (omega arith)) refl
+
+add_low : (b : ℕ) (bs : List ℕ) → b < 128 → IsUtf8 bs → IsUtf8 (b ∷ bs)
+add_low b bs low u = let j = add_char b bs (low_scalar b low) u in rw (encode_ascii b low) at j
+
+module _ (quote : ℕ) (q : quote < 128) where
+  doubled_chars : (cs : List ℕ) → scalars cs ≡ true → IsUtf8 (doubled quote (encodes cs) ++ quote ∷ [])
+  doubled_chars [] s = add_low quote [] q IsUtf8-nil
+  doubled_chars (c ∷ cs) s =
+      let p = and_parts (scalar c) (scalars cs) s in
+      let more = doubled_chars cs p.1 in
+      elim (order c 128) [
+        | inl low ↦ rw (encode_ascii c low) (elim (split (eqb c quote)) [
+          | inl same ↦ rw same (add_low quote (quote ∷ (doubled quote (encodes cs) ++ quote ∷ [])) q (add_low quote (doubled quote (encodes cs) ++ quote ∷ []) q more))
+          | inr other ↦ rw other (add_low c (doubled quote (encodes cs) ++ quote ∷ []) low more)
+        ])
+        | inr up ↦ subst (λ (bs : List ℕ). IsUtf8 (bs ++ quote ∷ [])) (sym (doubled_high quote (encode c) (encodes cs) q (high c up)))
+            (subst IsUtf8 (sym (append_assoc (encode c) (doubled quote (encodes cs)) (quote ∷ []))) (add_char c (doubled quote (encodes cs) ++ quote ∷ []) p.0 more))
+      ]
+
+  pub quoted_is_text : (z : List ℕ) → IsUtf8 z → IsUtf8 (quoted quote z)
+  quoted_is_text z u = add_low quote (doubled quote z ++ quote ∷ []) q (subst (λ (bs : List ℕ). IsUtf8 (doubled quote bs ++ quote ∷ [])) u.1.1 (doubled_chars u.0 u.1.0))

@@ -49,6 +49,25 @@ word_by (Some kind) word = front_of kind v.Fixed (length word)
 unfoldable pub word : List ℕ → Front
 word z = let found = map lower (take_while is_word z) in word_by (reserved found) found
 
+abbrev pub all_pass : (ℕ → Bool) → List ℕ → Bool
+all_pass p [] = true
+all_pass p (b ∷ bs) = p b && all_pass p bs
+
+abbrev pub is_low_word : ℕ → Bool
+is_low_word b = if is_upper b then false else is_word b
+
+abbrev pub first : List ℕ → ℕ
+first [] = 0
+first (b ∷ z) = b
+
+abbrev pub is_free : Option Kind → Bool
+is_free None = true
+is_free (Some kind) = false
+
+-- a plain name in lower case, and no reserved word
+unfoldable pub is_plain : List ℕ → Bool
+is_plain z = is_letter (first z) && (all_pass is_low_word z && is_free (reserved z))
+
 -- ---- numbers
 
 abbrev pub value_from : ℕ → List ℕ → ℕ
@@ -103,10 +122,6 @@ greater next = if next == 61 then sign k.AtLeast 2 else sign k.Greater 1
 
 abbrev pub not_equal : ℕ → Front
 not_equal next = if next == 61 then sign k.NotEqual 2 else bad
-
-abbrev pub first : List ℕ → ℕ
-first [] = 0
-first (b ∷ z) = b
 
 unfoldable pub sign_of : ℕ → List ℕ → Front
 sign_of b z =

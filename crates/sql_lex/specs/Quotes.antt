@@ -1,5 +1,5 @@
 -- What stands between quotes.
-use Rattle.std.specs.Prelude.{ℕ, ◌+◌, Bool, true, false, if◌then◌else◌, ◌==◌, List, [], ◌∷◌, Option, Some, None}
+use Rattle.std.specs.Prelude.{ℕ, ◌+◌, Bool, true, false, if◌then◌else◌, ◌==◌, List, [], ◌∷◌, ◌++◌, Option, Some, None}
 
 abbrev pub more : ℕ → ℕ → Option (List ℕ × ℕ) → Option (List ℕ × ℕ)
 more b n None = None
@@ -16,3 +16,12 @@ closed false quote [] = None
 closed true quote [] = Some ([], 0)
 closed false quote (b ∷ z) = if b == quote then more_bytes 1 (closed true quote z) else more b 1 (closed false quote z)
 closed true quote (b ∷ z) = if b == quote then more quote 1 (closed false quote z) else Some ([], 0)
+
+-- each quote twice
+abbrev pub doubled : ℕ → List ℕ → List ℕ
+doubled quote [] = []
+doubled quote (b ∷ bs) = if b == quote then quote ∷ quote ∷ doubled quote bs else b ∷ doubled quote bs
+
+-- between quotes
+abbrev pub quoted : ℕ → List ℕ → List ℕ
+quoted quote bs = quote ∷ (doubled quote bs ++ quote ∷ [])

@@ -128,6 +128,46 @@ fn reserved(word: &[u8]) -> Option<Kind>
     lookup(&WORDS, word)
 }
 
+fn is_low_word(b: u8) -> bool
+    ensures { result ≡ spec.is_low_word b }
+{
+    if matches!(b, b'A'..=b'Z') {
+        false
+    } else {
+        is_word(b)
+    }
+}
+
+fn all_low(mut z: &[u8]) -> bool
+    ensures { result ≡ spec.all_pass spec.is_low_word z.entry.now }
+{
+    'more: while let [b, rest @ ..] = z {
+        let b = *b;
+        z = rest;
+        if !is_low_word(b) {
+            return false;
+        }
+    }
+    true
+}
+
+/// Whether a name is a plain one in lower case that is not reserved.
+#[tactic(auto, unfolding(crate::specs::Lex::is_plain))]
+pub fn is_plain(z: &[u8]) -> bool
+    ensures { result ≡ spec.is_plain z.now }
+{
+    is_letter(first(z)) && all_low(z) && is_free(reserved(z))
+}
+
+fn is_free(found: Option<Kind>) -> bool
+    ensures { result ≡ spec.is_free found }
+{
+    match found {
+        None => true,
+        Some(_) => false,
+    }
+}
+
 #[tactic(auto, unfolding(crate::specs::Lex::word))]
 fn word(alloc: Global, z: &[u8]) -> Result<Front, Memory>
     requires room { 0 < length z.now }

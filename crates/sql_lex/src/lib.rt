@@ -5,5 +5,6 @@ mod lexer;
 mod quotes;
 mod token;
 
-pub use lexer::lex;
+pub use lexer::{is_plain, lex};
+pub use quotes::quote_text;
 pub use token::{Kind, Token, Value};

@@ -1,6 +1,6 @@
 // What stands between quotes.
 
-ghost use Rattle.std.specs.Prelude.{◌≡◌, ◌≤◌, ◌<◌, false, length, IfOk, IfSome, option_map};
+ghost use Rattle.std.specs.Prelude.{◌≡◌, ◌≤◌, ◌<◌, ◌++◌, false, drop, length, IfOk, IfSome, option_map};
 ghost use Rattle.std.specs.Str.{IsUtf8};
 ghost use Rattle.sql_lex.specs.Quotes as spec;
 
@@ -66,4 +66,36 @@ pub fn quoted(alloc: Global, quote: u8, z: &[u8]) -> Result<Option<(Text, usize)
         Some((content, len)) => Ok(Some((text_of(content), len))),
         None => Ok(None),
     }
+}
+
+fn doubled(alloc: Global, quote: u8, z: &[u8]) -> Result<Vec<u8>, Memory>
+    ensures { IfOk result (λ found. found.items ≡ spec.quoted quote z.now) }
+{
+    let mut found = Vec::new(alloc);
+    let Ok(()) = found.push(quote) else {
+        return Err(Memory);
+    };
+    'more: for b in z {
+        let Ok(()) = found.push(*b) else {
+            return Err(Memory);
+        };
+        if *b == quote {
+            let Ok(()) = found.push(quote) else {
+                return Err(Memory);
+            };
+        }
+    }
+    let Ok(()) = found.push(quote) else {
+        return Err(Memory);
+    };
+    Ok(found)
+}
+
+/// The text between quotes, each of its quotes twice.
+pub fn quote_text(alloc: Global, quote: u8, text: &str) -> Result<Text, Memory>
+    requires { quote < 128 }
+    ensures { IfOk result (λ t. t ≡ spec.quoted quote text.now) }
+{
+    let found = doubled(alloc, quote, text.as_bytes())?;
+    Ok(text_of(found))
 }
