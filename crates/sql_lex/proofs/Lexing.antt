@@ -130,7 +130,7 @@ tokens_on zero place (b ∷ z) = ap (λ p. tokens_from 0 p (b ∷ z)) (sym (add-
 tokens_on (suc left) place [] = refl
 tokens_on (suc left) place (b ∷ z) = tokens_on left (place + 1) z ∙ ap (λ p. tokens_from 0 p (drop left z)) (omega arith)
 
-tokens_blank_at : (place b : ℕ) (z : List ℕ) → is_blank b ≡ true → tokens_from 0 place (b ∷ z) ≡ tokens_from 0 (place + 1) z
+pub tokens_blank_at : (place b : ℕ) (z : List ℕ) → is_blank b ≡ true → tokens_from 0 place (b ∷ z) ≡ tokens_from 0 (place + 1) z
 unfolding tokens_from
 tokens_blank_at place b z h = rw h refl
 
@@ -138,7 +138,7 @@ next : (place : ℕ) (z : List ℕ) (b n : ℕ) → 1 ≤ n → tokens_from 0 (p
 next place z b zero le = absurd (omega arith)
 next place z b (suc m) le = let e : suc m - 1 ≡ m = omega arith in let f : place + 1 + m ≡ place + suc m = omega arith in rw (e, f) refl
 
-tokens_good_at : (place b : ℕ) (z : List ℕ) → is_blank b ≡ false → is_bad (front (b ∷ z)).kind ≡ false → 1 ≤ (front (b ∷ z)).len
+pub tokens_good_at : (place b : ℕ) (z : List ℕ) → is_blank b ≡ false → is_bad (front (b ∷ z)).kind ≡ false → 1 ≤ (front (b ∷ z)).len
     → tokens_from 0 place (b ∷ z) ≡ placed (front (b ∷ z)) place ∷ tokens_from 0 (place + (front (b ∷ z)).len) (drop (front (b ∷ z)).len (b ∷ z))
 unfolding tokens_from
 tokens_good_at place b z h g moves =
