@@ -1,0 +1,4 @@
+pub mod Said
+pub mod Placeless
+pub mod Spelling
+pub mod Page
