@@ -312,7 +312,7 @@ key = named key_laws
 
 order_laws : Laws OrderPhrase OrderPhrase order_at (k.Order ∷ []) (k.Order ∷ k.Comma ∷ k.Dot ∷ k.Asc ∷ k.Desc ∷ []) true
 unfolding order_at more_at
-order_laws = laws_of (made say.order (maybe (after k.Order (after k.By (made say.listed (list k.Comma key refl refl)))) refl)) _ _ refl refl
+order_laws = laws_of (made say.order (maybe (after k.Order (after k.By (list k.Comma key refl refl))) refl)) _ _ refl refl
 
 limit_laws : Laws LimitPhrase LimitPhrase limit_at (k.Limit ∷ []) (k.Limit ∷ []) true
 unfolding limit_at

@@ -111,7 +111,7 @@ WherePhrase Single = Maybe (After k.Where (ExprPhrase Single))
 
 -- [ order by key { , key } ]
 abbrev pub OrderPhrase : Lang (List Key)
-OrderPhrase = Made say.order (Maybe (After k.Order (After k.By (Made say.listed (Listed k.Comma KeyPhrase)))))
+OrderPhrase = Made say.order (Maybe (After k.Order (After k.By (Listed k.Comma KeyPhrase))))
 
 -- [ limit number ]
 abbrev pub LimitPhrase : Lang (Option ℕ)

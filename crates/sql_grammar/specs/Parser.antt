@@ -129,7 +129,7 @@ unfoldable pub key_at : Parser Key
 key_at = made_at say.key (then_at ref_at direction_at)
 
 unfoldable pub order_at : Parser (List Key)
-order_at = made_at say.order (maybe_at (k.Order ∷ []) (after_at k.Order (after_at k.By (made_at say.listed (listed_at k.Comma key_at)))))
+order_at = made_at say.order (maybe_at (k.Order ∷ []) (after_at k.Order (after_at k.By (listed_at k.Comma key_at))))
 
 unfoldable pub limit_at : Parser (Option ℕ)
 limit_at = maybe_at (k.Limit ∷ []) (after_at k.Limit (one_at say.number))

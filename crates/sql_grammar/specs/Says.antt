@@ -131,9 +131,9 @@ descends (Some b) = b
 abbrev pub key : Ref × Option Bool → Key
 key p = record { of = p.0; descending = descends p.1 }
 
-abbrev pub order : Option (List Key) → List Key
+abbrev pub order : Option (Key × List Key) → List Key
 order None = []
-order (Some keys) = keys
+order (Some keys) = listed keys
 
 abbrev pub test_by : Operand → Option Asked → Expr
 test_by a None = e.Test a asked.Truth

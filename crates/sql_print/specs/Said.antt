@@ -58,11 +58,14 @@ said_ref_by (Some s) n = said_name s ++ (fixed k.Dot ++ said_name n)
 abbrev pub said_ref : Ref → List Bare
 said_ref r = said_ref_by r.source r.column
 
+abbrev pub constant_bare : Constant → Bare
+constant_bare c.Null = (k.Null, v.Fixed)
+constant_bare (c.Bool b) = (if b then k.True else k.False, v.Fixed)
+constant_bare (c.Int n) = (k.Number, v.Number n)
+constant_bare (c.Text t) = (k.Text, v.Text t)
+
 abbrev pub said_constant : Constant → List Bare
-said_constant c.Null = fixed k.Null
-said_constant (c.Bool b) = fixed (if b then k.True else k.False)
-said_constant (c.Int n) = (k.Number, v.Number n) ∷ []
-said_constant (c.Text t) = (k.Text, v.Text t) ∷ []
+said_constant constant = constant_bare constant ∷ []
 
 abbrev pub said_literal : Literal → List Bare
 said_literal l = said_constant l.constant
