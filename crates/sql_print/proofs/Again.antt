@@ -1,10 +1,10 @@
 -- What is said of a phrase is a phrase again, with the same value but for places.
-use Rattle.std.proofs.Common.{◌≡◌, ℕ, Bool, true, false, cond, List, [], ◌∷◌, ◌++◌, map, ◌⊎◌, inl, inr, Option, Some, None, refl, sym, ap, subst, ◌∙◌, append-nil, eq-eqb}
+use Rattle.std.proofs.Common.{◌≡◌, true, List, [], ◌∷◌, ◌++◌, map, inl, inr, Option, Some, None, refl, sym, ap, subst, ◌∙◌, eq-eqb}
 use Rattle.std.specs.Prelude.{option_map}
 use Rattle.sql_lex.specs.declared.token.Kind.{Kind}
 use Rattle.sql_lex.specs.declared.token.Value.TheVariants as v
 use Rattle.sql_lex.specs.declared.token.Token.{Token}
-use Rattle.sql_grammar.specs.Language.{Lang, One, Joined, Made, Maybe, Many, Either}
+use Rattle.sql_grammar.specs.Language.{One, Joined, Made, Maybe, Many, Either}
 use Rattle.sql_grammar.specs.Reading.{same}
 use Rattle.sql_grammar.specs.Says as say
 use Rattle.sql_grammar.specs.Grammar.{Word, After, Before, Listed}

@@ -5,3 +5,5 @@ pub mod Sayable
 pub mod Again
 pub mod Trip
 pub mod Reprint
+pub mod Relex
+pub mod Whole

@@ -1,5 +1,5 @@
 -- What is printed of a statement is one again, with the same value but for places.
-use Rattle.std.proofs.Common.{◌≡◌, ℕ, ℤ, pos, negsuc, Bool, true, false, cond, List, [], ◌∷◌, ◌++◌, map, ◌⊎◌, inl, inr, Option, Some, None, refl, sym, ap, subst, ◌∙◌, append-nil, append_assoc, eq-eqb, ltb}
+use Rattle.std.proofs.Common.{◌≡◌, ℕ, pos, negsuc, Bool, true, false, cond, List, [], ◌∷◌, ◌++◌, map, inr, Option, Some, None, refl, sym, ap, subst, append-nil, eq-eqb, ltb}
 use Rattle.std.specs.Prelude.{option_map}
 use Rattle.sql_lex.specs.declared.token.Kind.{Kind}
 use Rattle.sql_lex.specs.declared.token.Kind.TheVariants as k
@@ -19,23 +19,21 @@ use Rattle.sql_grammar.specs.declared.ast.Op.TheVariants as op
 use Rattle.sql_grammar.specs.declared.ast.Asked.{Asked}
 use Rattle.sql_grammar.specs.declared.ast.Asked.TheVariants as asked
 use Rattle.sql_grammar.specs.declared.ast.Expr.{Expr}
-use Rattle.sql_grammar.specs.declared.ast.Expr.TheVariants as e
-use Rattle.sql_grammar.specs.declared.ast.Item.{Item}
 use Rattle.sql_grammar.specs.declared.ast.Shown.{Shown}
 use Rattle.sql_grammar.specs.declared.ast.Shown.TheVariants as shown
 use Rattle.sql_grammar.specs.declared.ast.Source.{Source}
 use Rattle.sql_grammar.specs.declared.ast.Join.{Join}
 use Rattle.sql_grammar.specs.declared.ast.Key.{Key}
 use Rattle.sql_grammar.specs.declared.ast.Statement.{Statement}
-use Rattle.sql_grammar.specs.Language.{Lang, One, Joined, Made, Maybe, Many, Either}
+use Rattle.sql_grammar.specs.Language.{Lang, One, Made, Maybe, Many, Either}
 use Rattle.sql_grammar.specs.Reading.{same}
 use Rattle.sql_grammar.specs.Says as say
-use Rattle.sql_grammar.specs.Grammar.{Word, After, Before, Listed, RefPhrase, ItemPhrase, ShownPhrase, OperandPhrase, ComparesPhrase, ListPhrase, NullPhrase, AskedPhrase, TestPhrase, BothPhrase, ExprPhrase, SinglePhrase, AliasPhrase, SourcePhrase, JoinPhrase, KeyPhrase, WherePhrase, OrderPhrase, LimitPhrase, StatementPhrase}
-use Rattle.sql_print.specs.Said.{Bare, bare, bares, fixed, between, said_name, said_ref, constant_bare, said_literal, said_operand, op_kind, negation, said_literals, said_asked, said_test, said, said_expr, said_alias, said_item, said_items, said_shown, said_source, said_join, said_joins, said_where, said_direction, said_key, said_keys, said_order, said_limit, said_statement}
+use Rattle.sql_grammar.specs.Grammar.{Word, After, Listed, RefPhrase, ItemPhrase, ShownPhrase, OperandPhrase, ComparesPhrase, ListPhrase, NullPhrase, AskedPhrase, TestPhrase, ExprPhrase, SinglePhrase, AliasPhrase, SourcePhrase, JoinPhrase, KeyPhrase, WherePhrase, OrderPhrase, LimitPhrase, StatementPhrase}
+use Rattle.sql_print.specs.Said.{Bare, bare, bares, fixed, said_name, said_ref, constant_bare, said_literal, said_operand, op_kind, said_literals, said_asked, said, said_expr, said_alias, said_item, said_shown, said_source, said_join, said_joins, said_where, said_direction, said_key, said_keys, said_order, said_limit, said_statement}
 use Rattle.sql_print.specs.Placeless as less
 use Rattle.sql_print.proofs.SaidLaws.{said_test_is, expr_test}
-use Rattle.sql_print.proofs.Sayable.{AllSayable, sayable, is_fixed, has_text, all_append}
-use Rattle.sql_print.proofs.Again.{Says, Again, OneSays, Cut, cut, again_one, again_joined, again_made, again_as, again_maybe, again_many, again_absent, again_either, again_word, again_after, again_before, again_listed, word_again, said_maybe, said_many}
+use Rattle.sql_print.proofs.Sayable.{AllSayable, sayable, has_text}
+use Rattle.sql_print.proofs.Again.{Says, Again, OneSays, cut, again_one, again_joined, again_made, again_as, again_maybe, again_many, again_absent, again_either, again_word, again_after, again_before, again_listed, word_again, said_maybe, said_many}
 use Rattle.sql_print.proofs.Trip.{again_expr}
 
 -- ---- tokens

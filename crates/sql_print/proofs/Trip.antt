@@ -1,18 +1,15 @@
 -- What is printed of an expression is read again, with the same value but for places.
-use Rattle.std.proofs.Common.{◌≡◌, ℕ, zero, suc, Bool, true, false, List, [], ◌∷◌, ◌++◌, map, ◌⊎◌, inl, inr, Option, Some, None, refl, sym, ap, subst, ◌∙◌, append-nil, eq-eqb}
-use Rattle.sql_lex.specs.declared.token.Kind.{Kind}
+use Rattle.std.proofs.Common.{◌≡◌, ℕ, zero, suc, List, [], ◌∷◌, ◌++◌, map, inl, inr, Option, Some, None, refl, sym, ap, subst, ◌∙◌, append-nil}
 use Rattle.sql_lex.specs.declared.token.Kind.TheVariants as k
-use Rattle.sql_lex.specs.declared.token.Value.TheVariants as v
 use Rattle.sql_lex.specs.declared.token.Token.{Token}
 use Rattle.sql_grammar.specs.declared.ast.Operand.{Operand}
 use Rattle.sql_grammar.specs.declared.ast.Asked.{Asked}
 use Rattle.sql_grammar.specs.declared.ast.Expr.{Expr}
 use Rattle.sql_grammar.specs.declared.ast.Expr.TheVariants as e
 use Rattle.sql_grammar.specs.Says as say
-use Rattle.sql_grammar.specs.Reading.{same}
-use Rattle.sql_grammar.specs.Language.{Lang, One, Joined, Made, Maybe, Many, Either}
-use Rattle.sql_grammar.specs.Grammar.{Word, After, Before, Listed, TestPhrase, BothPhrase, ExprPhrase, NestedPhrase, SinglePhrase}
-use Rattle.sql_print.specs.Said.{Bare, bare, bares, fixed, inside, each_after, between, Said, said}
+use Rattle.sql_grammar.specs.Language.{Lang}
+use Rattle.sql_grammar.specs.Grammar.{After, Before, Listed, TestPhrase, BothPhrase, ExprPhrase, NestedPhrase, SinglePhrase}
+use Rattle.sql_print.specs.Said.{Bare, bares, fixed, inside, between, Said, said}
 use Rattle.sql_print.specs.Placeless.{expr}
 use Rattle.sql_print.proofs.SaidLaws.{said_or, said_and, said_not, said_test_is, expr_or, expr_and, expr_not, fuse}
 use Rattle.sql_print.proofs.Again.{Says, Again, after_says, before_says, again_listed}

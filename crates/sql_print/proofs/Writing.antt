@@ -1,5 +1,5 @@
 -- Tokens written one after the other.
-use Rattle.std.proofs.Common.{◌≡◌, ℕ, List, [], ◌∷◌, ◌++◌, Option, Some, None, refl, sym, ap, ◌∙◌, append_assoc, append-nil}
+use Rattle.std.proofs.Common.{◌≡◌, ℕ, List, [], ◌∷◌, ◌++◌, Option, Some, refl, sym, ◌∙◌, append_assoc, append-nil}
 use Rattle.sql_lex.specs.declared.token.Kind.{Kind}
 use Rattle.sql_print.specs.Said.{Bare}
 use Rattle.sql_print.specs.Spelling.{spelling, gap, written, writes}

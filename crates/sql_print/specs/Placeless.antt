@@ -1,5 +1,5 @@
 -- A statement without its places.
-use Rattle.std.specs.Prelude.{◌≡◌, ℕ, Bool, List, [], ◌∷◌, map, Option, Some, None, option_map}
+use Rattle.std.specs.Prelude.{map, option_map}
 use Rattle.sql_grammar.specs.declared.ast.Name.{Name}
 use Rattle.sql_grammar.specs.declared.ast.Ref.{Ref}
 use Rattle.sql_grammar.specs.declared.ast.Literal.{Literal}

@@ -1,9 +1,12 @@
 // Statements.
 
-ghost use Rattle.std.specs.Prelude.{◌≡◌, OnOk, IfOk};
+ghost use Rattle.std.specs.Prelude.{◌≡◌, ℕ, List, OnOk, IfOk};
+ghost use Rattle.sql_lex.specs.declared.token.Token.{Token};
+ghost use Rattle.sql_grammar.specs.Grammar.{StatementPhrase};
 ghost use Rattle.sql_print.specs.Said as say;
 ghost use Rattle.sql_print.specs.Spelling.{writes, statement_text};
 ghost use Rattle.sql_print.specs.Page.{state};
+ghost use Rattle.sql_print.specs.Again.{SaysAgain};
 
 use crate::condition::alone;
 use crate::page::Page;
@@ -158,10 +161,12 @@ fn statement(page: &mut Page, statement: &Statement) -> Result<(), Memory>
     limit(page, statement.limit)
 }
 
-/// The text of a statement.
+/// The text of a statement. What is printed of a statement that was read is read again, with the same
+/// meaning but for places.
 #[tactic(auto, using(crate::proofs::Writing::writes_text))]
 pub fn print(alloc: Global, statement_of: &Statement) -> Result<Text, Memory>
-    ensures { IfOk result (λ t. t ≡ statement_text statement_of.now) }
+    ensures value { IfOk result (λ t. t ≡ statement_text statement_of.now) }
+    ensures again { (n : ℕ) → (ts : List Token) → StatementPhrase n ts statement_of.now → IfOk result (λ t. SaysAgain n t statement_of.now) }
 {
     let mut page = Page::new(alloc);
     statement(&mut page, statement_of)?;

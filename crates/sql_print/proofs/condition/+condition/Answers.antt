@@ -1,6 +1,6 @@
-use Rattle.std.proofs.Common.{◌≡◌, ◌++◌, List, ℕ, map, sym, ap, ◌∙◌, subst, OnOk, arith}
+use Rattle.std.proofs.Common.{◌≡◌, List, map, sym, ap, ◌∙◌, subst, OnOk, arith}
 use Rattle.sql_lex.specs.declared.token.Kind.TheVariants as k
-use Rattle.sql_print.specs.Said.{Bare, said, between, fixed}
+use Rattle.sql_print.specs.Said.{Bare, said, between}
 use Rattle.sql_print.specs.Spelling.{writes}
 use Rattle.sql_print.specs.Page.{state}
 use Rattle.sql_print.proofs.SaidLaws.{alone_or, alone_and, or_said, and_said}
