@@ -1,3 +1,6 @@
 pub mod Depth
+pub mod Json
 pub mod Names
+pub mod Patterns
+pub mod Truth
 pub mod formers

@@ -1,12 +1,13 @@
 ghost use Rattle.std.specs.Prelude.{◌≡◌, IfOk};
 ghost use Rattle.sp_value.specs.Names.{values_of};
 
+use crate::lists::copy_texts;
 use crate::members::Members;
 use crate::text::{Memory, Text};
 use sqlite_items::Items;
 use std::alloc::Global;
 
-/// A value.
+/// A value: nothing, a boolean, an integer of 64 bits, a text, a list, or values under names.
 #[derive(Drop)]
 pub enum Cell {
     Null,
@@ -17,29 +18,37 @@ pub enum Cell {
     Object(Members),
 }
 
-impl Cell {
-    #[cycle(copy)]
-    pub fn copy(&self, alloc: Global) -> Result<Cell, Memory>
-        ensures { IfOk result (λ c. c ≡ self.now) }
-    {
-        match self {
-            Cell::Null => Ok(Cell::Null),
-            Cell::Bool(b) => Ok(Cell::Bool(*b)),
-            Cell::Int(n) => Ok(Cell::Int(*n)),
-            Cell::Text(t) => Ok(Cell::Text(t.copy(alloc)?)),
-            Cell::List(cells) => Ok(Cell::List(copy_cells(alloc, cells.as_slice())?)),
-            Cell::Object(members) => Ok(Cell::Object(copy_members(alloc, members)?)),
-        }
+#[cycle(copy)]
+pub(crate) fn copy_cell(alloc: Global, cell: &Cell) -> Result<Cell, Memory>
+    ensures { IfOk result (λ c. c ≡ cell.now) }
+{
+    match cell {
+        Cell::Null => Ok(Cell::Null),
+        Cell::Bool(b) => Ok(Cell::Bool(*b)),
+        Cell::Int(n) => Ok(Cell::Int(*n)),
+        Cell::Text(t) => Ok(Cell::Text(Text::from_str(alloc, t.as_str())?)),
+        Cell::List(cells) => Ok(Cell::List(copy_cells(alloc, cells.as_slice())?)),
+        Cell::Object(members) => Ok(Cell::Object(copy_members(alloc, members)?)),
     }
 }
 
+impl Members<Cell> {
+    /// Equal members, unless memory is wanting.
+    pub fn copy(&self, alloc: Global) -> Result<Members<Cell>, Memory>
+        ensures { IfOk result (λ ms. ms ≡ self.now) }
+    {
+        copy_members(alloc, self)
+    }
+}
+
+/// Equal values in the same order, unless memory is wanting.
 #[cycle(copy)]
-fn copy_cells(alloc: Global, cells: &[Cell]) -> Result<Items<Cell>, Memory>
+pub fn copy_cells(alloc: Global, cells: &[Cell]) -> Result<Items<Cell>, Memory>
     ensures { IfOk result (λ cs. cs ≡ cells.now) }
 {
     let mut copies = Items::new(alloc);
     for cell in cells {
-        let Ok(()) = copies.push(cell.copy(alloc)?) else {
+        let Ok(()) = copies.push(copy_cell(alloc, cell)?) else {
             return Err(Memory);
         };
     }
@@ -48,22 +57,10 @@ fn copy_cells(alloc: Global, cells: &[Cell]) -> Result<Items<Cell>, Memory>
 
 #[cycle(copy)]
 #[tactic(auto, using(crate::proofs::Zips::zip_parts, crate::proofs::Zips::length_parts))]
-fn copy_members(alloc: Global, members: &Members<Cell>) -> Result<Members<Cell>, Memory>
+pub(crate) fn copy_members(alloc: Global, members: &Members<Cell>) -> Result<Members<Cell>, Memory>
     ensures { IfOk result (λ ms. ms ≡ members.now) }
 {
-    let names = copy_names(alloc, members.names())?;
+    let names = copy_texts(alloc, members.names())?;
     let values = copy_cells(alloc, members.values())?;
     Ok(Members::from_parts(names, values))
-}
-
-fn copy_names(alloc: Global, names: &[Text]) -> Result<Items<Text>, Memory>
-    ensures { IfOk result (λ ns. ns ≡ names.now) }
-{
-    let mut copies = Items::new(alloc);
-    for name in names {
-        let Ok(()) = copies.push(name.copy(alloc)?) else {
-            return Err(Memory);
-        };
-    }
-    Ok(copies)
 }

@@ -2,9 +2,23 @@
 #![tactic(auto)]
 
 mod cell;
+mod copying;
+mod json;
+mod kind;
+mod lists;
 mod members;
+mod pattern;
+#[cfg(test)]
+mod tests;
 mod text;
+mod truth;
 
-pub use cell::Cell;
+pub use cell::{Cell, copy_cells};
+pub use copying::TryCopy;
+pub use json::{CellFault, from_json, has_odd_number, members_from_json, members_to_json, nests, to_json};
+pub use kind::Kind;
+pub use lists::{Cells, Kinds, Rows, Texts, copy_texts};
 pub use members::Members;
+pub use pattern::{Pattern, copy_patterns, fits_some};
 pub use text::{Memory, Text};
+pub use truth::{Op, Truth, compare};

@@ -18,7 +18,6 @@ use denote.Model.Placed.{held, view_places_where}
 use Rattle.std_collections.specs.Map.{values_of}
 use Rattle.std_collections.specs.Layout.Former.{entry, on_value, entries_puts, values_listed}
 use Rattle.sqlite_items.specs.formers.items.Items as items
-use Rattle.sp_value.specs.Names.{rise}
 use Rattle.sp_value.specs.declared.members.Members.TheInside.{Inside}
 use Rattle.sp_value.specs.declared.members.Members.TheView.{view, invariant}
 use Rattle.sp_value.specs.contracts.members.Members as C
