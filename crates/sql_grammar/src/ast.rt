@@ -1,6 +1,6 @@
 // What a statement says. A place is that of a first byte, in bytes from 0.
 
-use sp_value::Text;
+use sp_value::{Op, Text};
 use sqlite_items::{Boxed, Items};
 
 /// A name as it is compared, with its place.
@@ -37,16 +37,6 @@ pub struct Literal {
 pub enum Operand {
     Ref(Ref),
     Literal(Literal),
-}
-
-#[derive(Clone, Copy, Debug, PartialEq, Eq)]
-pub enum Op {
-    Eq,
-    Ne,
-    Lt,
-    Le,
-    Gt,
-    Ge,
 }
 
 /// What is asked of a test's first operand.

@@ -8,10 +8,10 @@ ghost use Rattle.sql_grammar.specs.Parser as spec;
 ghost use Rattle.sql_grammar.specs.Parser.{with_front};
 ghost use Rattle.sql_lex.specs.declared.token.Kind.TheVariants as Kind;
 
-use crate::ast::{Asked, Constant, Expr, Literal, Op, Operand};
+use crate::ast::{Asked, Constant, Expr, Literal, Operand};
 use crate::stop::Stop;
 use crate::words::{column, next_is, word};
-use sp_value::Memory;
+use sp_value::{Memory, Op, TryCopy};
 use sql_lex::{Kind, Token, Value};
 use sqlite_items::Items;
 use std::alloc::Global;

@@ -8,7 +8,7 @@ ghost use Rattle.sql_grammar.specs.Parser as spec;
 
 use crate::ast::{Name, Ref};
 use crate::stop::Stop;
-use sp_value::Memory;
+use sp_value::{Memory, TryCopy};
 use sql_lex::{Kind, Token, Value};
 use std::alloc::Global;
 

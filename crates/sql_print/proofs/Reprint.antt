@@ -14,8 +14,8 @@ use Rattle.sql_grammar.specs.declared.ast.Constant.TheVariants as c
 use Rattle.sql_grammar.specs.declared.ast.Literal.{Literal}
 use Rattle.sql_grammar.specs.declared.ast.Operand.{Operand}
 use Rattle.sql_grammar.specs.declared.ast.Operand.TheVariants as operand
-use Rattle.sql_grammar.specs.declared.ast.Op.{Op}
-use Rattle.sql_grammar.specs.declared.ast.Op.TheVariants as op
+use Rattle.sp_value.specs.declared.truth.Op.{Op}
+use Rattle.sp_value.specs.declared.truth.Op.TheVariants as op
 use Rattle.sql_grammar.specs.declared.ast.Asked.{Asked}
 use Rattle.sql_grammar.specs.declared.ast.Asked.TheVariants as asked
 use Rattle.sql_grammar.specs.declared.ast.Expr.{Expr}

@@ -6,8 +6,8 @@ ghost use Rattle.sql_print.specs.Spelling.{writes};
 ghost use Rattle.sql_print.specs.Page.{state};
 
 use crate::page::Page;
-use sp_value::Memory;
-use sql_grammar::{Constant, Literal, Name, Op, Operand, Ref};
+use sp_value::{Memory, Op};
+use sql_grammar::{Constant, Literal, Name, Operand, Ref};
 use sql_lex::Kind;
 
 pub fn name(page: &mut Page, name: &Name) -> Result<(), Memory>
