@@ -8,9 +8,9 @@ use Rattle.std.proofs.Common.{rules}
 use Rattle.sql_lex.specs.declared.token.Kind.{Kind}
 use Rattle.sql_lex.specs.declared.token.Kind.TheVariants as k
 use Rattle.sql_lex.specs.declared.token.Value.TheVariants as v
-use Rattle.sql_lex.specs.Quotes.{closed, doubled, quoted}
+use Rattle.sql_lex.specs.Quotes.{closed, doubled, quoted, NoQuote}
 use Rattle.sql_lex.specs.Lex.{is_upper, is_letter, is_digit, is_word, is_low_word, is_free, is_plain, lower, first, all_pass, reserved, word, word_by, value_from, limit, signed, number, number_by, sign_len, front_of, front, text_by, name_by, sign_of}
-use Rattle.sql_lex.proofs.QuoteLaws.{Past, NoQuote, run_again, closed_again}
+use Rattle.sql_lex.proofs.QuoteLaws.{Past, run_again, closed_again}
 
 split : (b : Bool) → (b ≡ true) ⊎ (b ≡ false)
 split true = inl refl

@@ -1,5 +1,5 @@
 -- What stands between quotes.
-use Rattle.std.specs.Prelude.{ℕ, ◌+◌, Bool, true, false, if◌then◌else◌, ◌==◌, List, [], ◌∷◌, ◌++◌, Option, Some, None}
+use Rattle.std.specs.Prelude.{◌≡◌, length, ℕ, ◌+◌, Bool, true, false, if◌then◌else◌, ◌==◌, List, [], ◌∷◌, ◌++◌, Option, Some, None}
 
 abbrev pub more : ℕ → ℕ → Option (List ℕ × ℕ) → Option (List ℕ × ℕ)
 more b n None = None
@@ -25,3 +25,20 @@ doubled quote (b ∷ bs) = if b == quote then quote ∷ quote ∷ doubled quote 
 -- between quotes
 abbrev pub quoted : ℕ → List ℕ → List ℕ
 quoted quote bs = quote ∷ (doubled quote bs ++ quote ∷ [])
+
+-- the text does not go on with a quote
+abbrev pub NoQuote : ℕ → List ℕ → Type 0
+NoQuote quote [] = Unit {0}
+NoQuote quote (c ∷ rest) = (c == quote) ≡ false
+
+-- A text begins with the content, each of its quotes twice, and a closing quote: so many bytes, after which comes no quote.
+pub record ClosesAt (quote : ℕ) (z content : List ℕ) (len : ℕ) : Type 0 where
+  pub rest : List ℕ
+  pub parts : z ≡ (doubled quote content ++ quote ∷ []) ++ rest
+  pub size : len ≡ length (doubled quote content ++ quote ∷ [])
+  pub past : NoQuote quote rest
+
+-- the quote closes so, or nowhere
+abbrev pub Closes : ℕ → List ℕ → Option (List ℕ × ℕ) → Type 0
+Closes quote z None = (content : List ℕ) (len : ℕ) → ClosesAt quote z content len → ⊥
+Closes quote z (Some found) = ClosesAt quote z found.0 found.1

@@ -342,13 +342,13 @@ fn name(alloc: Global, z: &[u8]) -> Result<Front, Memory>
     ensures moves { IfOk result (λ f. (1 ≤ f.len) × (f.len ≤ length z.now)) }
 {
     match quoted(alloc, b'"', &z[1..])? {
-        Some((content, len)) => {
-            if content.as_str().as_bytes().is_empty() {
+        Some((inner, len)) => {
+            if inner.as_bytes().is_empty() {
                 Ok(sign(Kind::Bad, 1))
             } else {
                 Ok(Front {
                     kind: Kind::Name,
-                    value: Value::Text(content),
+                    value: Value::Text(inner),
                     len: len + 1,
                 })
             }

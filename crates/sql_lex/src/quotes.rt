@@ -60,6 +60,7 @@ pub fn quoted(alloc: Global, quote: u8, z: &[u8]) -> Result<Option<(Text, usize)
     requires text { IsUtf8 z.now }
     requires ascii { quote < 128 }
     ensures value { IfOk result (λ found. found ≡ spec.closed false quote z.now) }
+    ensures closes { IfOk result (λ found. spec.Closes quote z.now found) }
     ensures within { IfOk result (λ found. IfSome found (λ f. f.1 ≤ length z.now)) }
 {
     match closed(alloc, quote, z)? {

@@ -8,7 +8,8 @@ use Rattle.sql_lex.specs.declared.token.Value.{Value}
 use Rattle.sql_lex.specs.declared.token.Value.TheVariants as v
 use Rattle.sql_lex.specs.declared.lexer.Front.{Front}
 use Rattle.sql_lex.specs.Lex.{is_letter, is_word, is_digit, is_blank, is_bad, is_plain, lower, first, all_pass, reserved, front, front_of, placed, tokens_from, limit, sign_of}
-use Rattle.sql_lex.proofs.QuoteLaws.{Past, NoQuote}
+use Rattle.sql_lex.specs.Quotes.{NoQuote}
+use Rattle.sql_lex.proofs.QuoteLaws.{Past}
 use Rattle.sql_lex.proofs.Lexing.{tokens_blank_at, tokens_good_at}
 use Rattle.sql_lex.proofs.Fronts.{reserved_front, plain_front, text_front, name_front, pos_front, neg_front, less_front, greater_front, star_front, comma_front, dot_front, open_front, close_front, semi_front, equal_front, not_equal_front, at_most_front, at_least_front}
 use Rattle.sql_print.specs.Said.{Bare, bares}

@@ -137,14 +137,14 @@ fn in_or(page: &mut Page, e: &Expr) -> Result<(), Memory>
 // A member of an `and`, or what stands behind a `not`.
 #[tactic(auto, using(crate::proofs::SaidLaws::laws))]
 #[cycle(condition)]
-fn in_and(page: &mut Page, e: &Expr) -> Result<(), Memory>
-    ensures { OnOk result (state page.new ≡ writes (state page.old) (said e.now).in_and) }
+fn in_and(page: &mut Page, member: &Expr) -> Result<(), Memory>
+    ensures { OnOk result (state page.new ≡ writes (state page.old) (said member.now).in_and) }
 {
-    match e {
-        Expr::Or(_) => enclosed(page, e),
-        Expr::And(_) => enclosed(page, e),
-        Expr::Not(_) => alone(page, e),
-        Expr::Test { .. } => alone(page, e),
+    match member {
+        Expr::Or(_) => enclosed(page, member),
+        Expr::And(_) => enclosed(page, member),
+        Expr::Not(_) => alone(page, member),
+        Expr::Test { .. } => alone(page, member),
     }
 }
 

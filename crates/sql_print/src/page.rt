@@ -123,7 +123,7 @@ impl Page {
     pub fn name(&mut self, text: &Text) -> Result<(), Memory>
         ensures { OnOk result (state self.new ≡ writes (state self.old) ((k.Name, v.Text text.now) ∷ [])) }
     {
-        if is_plain(text.as_str().as_bytes()) {
+        if is_plain(text.as_bytes()) {
             self.put(Kind::Name, text.as_str())
         } else {
             let quoted = quote_text(self.alloc, b'"', text.as_str())?;
