@@ -1,0 +1,12 @@
+pub mod Sets
+pub mod Rules
+pub mod Basic
+pub mod Then
+pub mod Choice
+pub mod Repeat
+pub mod Laws
+pub mod Sql
+pub mod Agrees
+pub mod Whole
+pub mod Loops
+pub mod Nested

@@ -1,0 +1,4 @@
+pub mod Lexing
+pub mod QuoteLaws
+pub mod QuotedText
+pub mod Fronts
