@@ -6,3 +6,4 @@ pub mod Memories
 pub mod Log
 pub mod BookLog
 pub mod ChildState
+pub mod Scripted

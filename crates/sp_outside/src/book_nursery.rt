@@ -56,7 +56,7 @@ impl<W: World> BookNursery<W> {
     }
 }
 
-impl<W: World + Send> Nursery<W> for BookNursery<W> {
+impl<W: World> Nursery<W> for BookNursery<W> {
     type Kid = BookChild<W>;
 
     ghost made = { λ n. n.made };

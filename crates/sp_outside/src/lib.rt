@@ -5,6 +5,8 @@ mod book_child;
 mod book_log;
 mod book_nursery;
 mod child;
+#[cfg(test)]
+mod child_tests;
 mod clock;
 mod failing;
 mod log;

@@ -11,7 +11,7 @@ pub trait Nursery<W: World> {
     ghost use Rattle.std.specs.Prelude.{ℕ, List};
 
     /// The children that it makes.
-    type Kid: Child<W> + Send + Drop;
+    type Kid: Child<W> + Drop;
 
     /// How many children were made.
     ghost made: { Self → ℕ };
