@@ -2,6 +2,8 @@
 #![tactic(auto)]
 
 mod reading;
+#[cfg(test)]
+mod tests;
 
 pub use reading::read_line;
 pub use sp_world::{Line, LineFault, Request, read_request, reply_line, request_line};

@@ -16,7 +16,7 @@ pub use kept::Kept;
 pub use line::{Line, LineFault, Request};
 pub use line_json::{flag_at, number_at, read_json, spell, text_at};
 pub use reply_lines::{is_shallow_object, item_from, reply_line};
-pub use request_lines::request_line;
+pub use request_lines::{conditions_json, operator_text, request_line};
 pub use request_reading::read_request;
 pub use told::{Said, Told, ToldLine};
 pub use untold::Untold;

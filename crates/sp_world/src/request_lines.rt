@@ -125,7 +125,8 @@ fn hydrate_json(
         "id": id, "item": item, "op": "hydrate", "results": results, "table": table, "version": key.version})
 }
 
-fn operator_text(operator: Op) -> &'static str
+/// How an operator is spelled.
+pub fn operator_text(operator: Op) -> &'static str
     ensures { result.now ≡ operator_text operator }
 {
     match operator {
@@ -162,7 +163,9 @@ fn condition_json(alloc: Global, condition: &Condition) -> Result<Value, Memory>
     ))
 }
 
-fn conditions_json(alloc: Global, conditions: &[Condition]) -> Result<Value, Memory>
+/// The JSON of conditions: a list of `["column", "operator", value]`, the operators spelled `=`, `<>`, `<`, `<=`, `>`, `>=`. It has no
+/// float, and canonical conditions are read again from it.
+pub fn conditions_json(alloc: Global, conditions: &[Condition]) -> Result<Value, Memory>
     ensures value { IfOk result (λ v. view v ≡ conditions_data conditions.now) }
     ensures back { IfOk result (λ v. is_canonical conditions.now ≡ true → conditions_of (view v) ≡ Some conditions.now) }
     ensures no_float { IfOk result (λ v. has_float (view v) ≡ false) }
