@@ -12,8 +12,7 @@ mod stop;
 mod words;
 
 pub use ast::{
-    Asked, Constant, Expr, Item, Join, Key, Literal, Name, Operand, Ref, Shown, Source,
-    Statement,
+    Asked, Constant, Expr, Item, Join, Key, Literal, Name, Operand, Ref, Shown, Source, Statement,
 };
 pub use statement::parse;
 pub use stop::Stop;

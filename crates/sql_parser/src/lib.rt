@@ -8,8 +8,7 @@ mod tests;
 
 pub use fault::SqlFault;
 pub use reading::parse;
-pub use sql_print::print;
 pub use sql_grammar::{
-    Asked, Constant, Expr, Item, Join, Key, Literal, Name, Operand, Ref, Shown, Source,
-    Statement,
+    Asked, Constant, Expr, Item, Join, Key, Literal, Name, Operand, Ref, Shown, Source, Statement,
 };
+pub use sql_print::print;

@@ -76,7 +76,11 @@ fn a_text_that_ends_too_early_is_refused_at_its_end(rt: HostRuntime) {
         "select * from c.t limit   ",
     ];
     for text in texts {
-        assert_eq!(rt; refusal(rt.alloc(), text), Some((false, text.len() as u64)), "{text}");
+        assert_eq!(rt;
+            refusal(rt.alloc(), text),
+            Some((false, text.len() as u64)),
+            "{text}"
+        );
     }
 }
 
