@@ -1,8 +1,8 @@
 -- What requests read as.
-use Rattle.std.proofs.Common.{rules, ◌≡◌, ◌≤◌, ℕ, ℤ, suc, max, Bool, true, false, ◌&&◌, ◌||◌, List, [], ◌∷◌, ◌++◌, map, take, length, Option, Some, None, option_map, is_some, nat_le, refl, sym, ap, ◌∙◌, subst, arith}
+use Rattle.std.proofs.Common.{◌≡◌, ◌≤◌, ℕ, ℤ, Bool, true, false, ◌&&◌, List, [], ◌∷◌, map, take, length, Option, Some, None, option_map, refl, sym, ap, ◌∙◌, subst, arith}
 use Rattle.std.proofs.lemmas.Bool.{le-leb, leb-true, and_parts}
 use Rattle.std.proofs.lemmas.List.{take_all}
-use Rattle.serde_json.specs.Data.{Data, null, boolean, number, string, array, object, Items, no_items, item, Members, no_members, member, depth, items_depth, members_depth}
+use Rattle.serde_json.specs.Data.{Data, null, boolean, number, string, array, object, Members, no_members, member, depth, items_depth, members_depth}
 use Rattle.serde_json.specs.Find.{as_i64}
 use Rattle.serde_json.specs.View.{view, items_of, items_view}
 use Rattle.serde_json.specs.Written.{has_float, items_have_float}
@@ -10,14 +10,13 @@ use Rattle.serde_json.specs.declared.value.Value.{Value}
 use Rattle.sp_value.specs.Json.{has_odd_number, items_odd, cell_of, cells_of, pairs_of, data_of}
 use Rattle.sp_value.specs.Depth as values
 use Rattle.sp_value.proofs.Computing.{cells, depth-Null}
-use Rattle.sp_value.proofs.JsonLaws.{whole_of_cell, no_float_of_cell, depth_of_cell, some_list, some_object, some_member, some_number, or_false}
+use Rattle.sp_value.proofs.JsonLaws.{whole_of_cell, no_float_of_cell, depth_of_cell, some_list, some_object, some_member, or_false}
 use Rattle.sp_value.specs.declared.cell.Cell.{Cell}
 use Rattle.sp_value.specs.declared.cell.Cell as c
 use Rattle.sp_value.specs.declared.cell.Cell.TheViews.{out-Cell}
 use Rattle.sp_value.specs.declared.truth.Op.{Op}
 use Rattle.sp_value.specs.declared.truth.Op.TheVariants.{Eq, Ne, Lt, Le, Gt, Ge}
-use Rattle.sp_model.specs.Conditions.{is_scalar, is_scalar_at, is_before, is_canonical}
-use Rattle.sp_model.specs.Sayable.{IsItem, IsObject, IsObject_at}
+use Rattle.sp_model.specs.Conditions.{is_scalar, is_before, is_canonical}
 use Rattle.sp_model.specs.declared.call.Condition.{Condition}
 use Rattle.sp_world.specs.ReplyLines.{is_shallow_object}
 use Rattle.sp_world.specs.RequestLines.{operator_text, operator_of, condition_data, condition_of, condition_list, scalar_of, is_result, are_results, results_of, conditions_of, IsResultForm, IsNullOrObject_at, AreResults}

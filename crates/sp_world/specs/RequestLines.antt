@@ -1,10 +1,10 @@
 -- Request lines.
-use Rattle.std.specs.Prelude.{◌≡◌, ℕ, ◌^◌, ◌<◌, ◌&&◌, Bool, true, false, List, [], ◌∷◌, map, codes, bytes_eq, nat_lt, nat_le, if◌then◌else◌, Option, Some, None, IsSome, ◌≤◌, Result, option_and_then, option_map}
-use Rattle.serde_json.specs.Data.{Data, null, boolean, number, string, array, object, unsigned, Items, no_items, item, Members, no_members, member, depth}
+use Rattle.std.specs.Prelude.{◌≡◌, ℕ, ◌^◌, ◌<◌, ◌&&◌, Bool, true, List, [], ◌∷◌, map, codes, bytes_eq, nat_lt, if◌then◌else◌, Option, Some, None, IsSome, ◌≤◌, Result, option_and_then, option_map}
+use Rattle.serde_json.specs.Data.{Data, null, boolean, number, string, array, object, unsigned, Items, no_items, item, Members, no_members, member}
 use Rattle.serde_json.specs.Find.{get, at, as_str, as_i64}
 use Rattle.serde_json.specs.View.{items_of}
 use Rattle.serde_json.specs.Written.{compact_text}
-use Rattle.sp_value.specs.Json.{cell_of, pairs_of, data_of, members_from, pairs_data}
+use Rattle.sp_value.specs.Json.{pairs_of, data_of, members_from, pairs_data}
 use Rattle.sp_value.specs.declared.cell.Cell.{Cell}
 use Rattle.sp_value.specs.declared.cell.Cell as cell
 use Rattle.sp_value.specs.declared.cell.Cell.TheOpen.{Cell-F}

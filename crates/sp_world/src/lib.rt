@@ -8,6 +8,8 @@ mod operation;
 mod reply_lines;
 mod request_lines;
 mod request_reading;
+#[cfg(test)]
+mod tests;
 mod told;
 mod untold;
 mod world;

@@ -1,6 +1,5 @@
-use Rattle.std.proofs.Common.{ap, sym, ◌∙◌, arith}
 use Rattle.serde_json.proofs.Views.{view-Array}
-use Rattle.sp_world.proofs.RequestTexts.{Written, all_written, conditions_back, conditions_no_float, conditions_whole, conditions_depth}
+use Rattle.sp_world.proofs.RequestTexts.{all_written, conditions_back, conditions_no_float, conditions_whole, conditions_depth}
 use Rattle.sp_world.proofs.request_lines.conditions_json.Goals as goal
 
 pub returns-clause-value : goal.returns-clause-value

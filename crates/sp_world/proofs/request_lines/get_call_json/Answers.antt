@@ -1,7 +1,6 @@
 use Rattle.std.proofs.Common.{◌≡◌, ap, ◌∙◌, false}
 use Rattle.serde_json.specs.View.{view}
 use Rattle.sp_value.specs.Json.{has_odd_number}
-use Rattle.sp_world.specs.RequestLines.{get_data}
 use Rattle.sp_world.proofs.Calls.{get_whole}
 use Rattle.sp_world.proofs.request_lines.get_call_json.Goals as goal
 
