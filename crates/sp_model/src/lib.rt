@@ -18,6 +18,6 @@ pub use declaration::{
 };
 pub use laws::plain_list_is_its_items;
 pub use names::{is_connection_name, is_name, is_word};
-pub use outcome::{Outcome, Row, ScanValue, Settled};
+pub use outcome::{Outcome, Results, Row, ScanValue, Settled, Walk, WalkState};
 pub use scan::{Access, Cause, Mark, ScanNote, ScanNotes, ScanRequest, Seat};
 pub use settings::{Connection, Limiter, Options, Pair, Settings};
