@@ -52,7 +52,7 @@ row_plain gives (k ∷ ks) item h =
     ∙ ap (λ row. with_cell k.name (Some (checked k.kind (field k.field item))) row) later
     ∙ with_cell_plain k.name (checked k.kind (field k.field item)) (plain_row ks item)
 
-any_there : {X : Type 0} (test : X → Bool) (before : List X) (x : X) (after : List X) → test x ≡ true → list_any test (before ++ x ∷ after) ≡ true
+pub any_there : {X : Type 0} (test : X → Bool) (before : List X) (x : X) (after : List X) → test x ≡ true → list_any test (before ++ x ∷ after) ≡ true
 any_there test [] x after h = ap (λ b. b || list_any test after) h
 any_there test (y ∷ ys) x after h = ap (λ b. test y || b) (any_there test ys x after h) ∙ or-true (test y)
 

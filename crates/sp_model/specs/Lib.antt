@@ -5,6 +5,7 @@ pub mod Covers
 pub mod Fields
 pub mod Hydration
 pub mod Keys
+pub mod Laws
 pub mod Names
 pub mod PlainList
 pub mod RowOf
