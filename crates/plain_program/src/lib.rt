@@ -10,6 +10,7 @@ mod scan;
 mod script;
 mod settle;
 mod walking;
+mod worked;
 
 pub use hydrate::hydrated;
 pub use item::{field, is_of_kind, row_of};
@@ -19,6 +20,7 @@ pub use scan::{OfItem, OfParent, columns_named, scan_value, scan_walk};
 pub use script::{Script, Written};
 pub use settle::{rule_of, settled};
 pub use walking::{Source, Visit, walk};
+pub use worked::worked_values;
 
 #[cfg(test)]
 mod tests;
