@@ -1,10 +1,12 @@
-use crate::{Script, Written, choose, scan_walk, sent};
+use crate::{Script, Written, choose, scan_value, scan_walk, sent};
 use serde_json::Value;
 use sp_model::{
-    Access, AccessDecl, Backoff, Cause, ColumnDecl, Condition, Conditions, Ending, FunctionDecl,
-    GetDecl, KeyDecl, ListDecl, Matching, Need, Reply, Retry, Rule, ScanRequest, TableDecl, Walk,
+    Access, AccessDecl, Backoff, CallKey, Cause, ColumnDecl, Condition, Conditions, Ending,
+    FunctionDecl, GetDecl, KeyDecl, ListDecl, Matching, Need, Reply, Retry, Rule, ScanRequest,
+    ScanValue, TableDecl, Version, Walk,
 };
-use sp_value::{Cell, Cells, Kind, Op, Rows, Text, Texts, TryCopy, from_json, to_json};
+use sp_value::{Cell, Cells, Kind, Memory, Op, Rows, Text, Texts, TryCopy, from_json, to_json};
+use sp_world::World;
 use sqlite_items::Items;
 use std::alloc::Global;
 use std::test::Fail;
@@ -376,5 +378,170 @@ fn a_scan_gives_its_rows_or_its_first_failure(rt: HostRuntime) -> Result<(), Fai
         let walk = scan_walk(alloc, &script_at(alloc, script)?, &table, &request)?;
         assert_eq!(rt; shown(alloc, &walk)?.as_str(), want, "{script}");
     }
+    Ok(())
+}
+
+fn keyed_table(alloc: Global, keys: Items<KeyDecl>, get: bool) -> Result<TableDecl, Fail> {
+    let mut columns = Items::new(alloc);
+    columns.push(column_at(alloc, "id", Kind::Int, "")?)?;
+    let list = list_at(alloc, keys, None)?;
+    let mut table = table_at(alloc, columns, list)?;
+    if get {
+        let mut keys = Items::new(alloc);
+        keys.push(key_at(alloc, "id", Need::Required, &[Op::Eq])?)?;
+        table.get = Some(GetDecl {
+            function: text_at(alloc, "getItem")?,
+            keys,
+            tags: Items::new(alloc),
+            ignore: None,
+            retry: None,
+        });
+    }
+    Ok(table)
+}
+
+fn conditions_at(alloc: Global, column: &str, operator: Op) -> Result<Conditions, Fail> {
+    let mut conditions = Items::new(alloc);
+    conditions.push(Condition {
+        column: text_at(alloc, column)?,
+        operator,
+        value: Cell::Int(5),
+    })?;
+    Ok(conditions)
+}
+
+fn shown_choice(alloc: Global, choice: &Result<Access, Texts>) -> Result<String, Fail> {
+    let mut text = String::new(alloc);
+    match choice {
+        Ok(Access::Get) => text.push_str("get")?,
+        Ok(Access::List) => text.push_str("list")?,
+        Ok(Access::Parents) => text.push_str("parents")?,
+        Err(missing) => {
+            for name in missing.as_slice() {
+                text.push_str(name.as_str())?;
+                text.push_str(" ")?;
+            }
+        }
+    }
+    Ok(text)
+}
+
+#[test]
+fn a_get_comes_before_a_list_and_missing_keys_are_named(rt: HostRuntime) -> Result<(), Fail> {
+    let equal = [Op::Eq];
+    let both = [Op::Eq, Op::Gt];
+    for (keys, get, column, operator, lists, want, count) in [
+        (["bucket", "", ""], false, "label", Op::Eq, "", "bucket ", 0),
+        (["bucket", "", ""], false, "bucket", Op::Eq, "", "list", 1),
+        (
+            ["bucket", "", ""],
+            false,
+            "bucket",
+            Op::Gt,
+            "",
+            "bucket ",
+            0,
+        ),
+        (
+            ["bucket", "", ""],
+            false,
+            "label",
+            Op::Eq,
+            "bucket",
+            "list",
+            0,
+        ),
+        (
+            ["", "region", "zone"],
+            false,
+            "body",
+            Op::Eq,
+            "",
+            "region zone ",
+            0,
+        ),
+        (["", "region", "zone"], false, "zone", Op::Eq, "", "list", 1),
+        (["", "", ""], true, "id", Op::Eq, "", "get", 1),
+        (["", "", ""], true, "id", Op::Gt, "", "list", 1),
+        (["", "", ""], true, "body", Op::Eq, "id", "get", 0),
+    ] {
+        let alloc = rt.alloc();
+        let mut declared = Items::new(alloc);
+        for (name, need) in [
+            (keys[0], Need::Required),
+            (keys[1], Need::AnyOf),
+            (keys[2], Need::AnyOf),
+        ] {
+            if !name.is_empty() {
+                declared.push(key_at(alloc, name, need, equal.as_slice())?)?;
+            }
+        }
+        if get {
+            declared.push(key_at(alloc, "id", Need::Optional, both.as_slice())?)?;
+        }
+        let conditions = conditions_at(alloc, column, operator)?;
+        let sent = sent(alloc, declared.as_slice(), conditions.as_slice())?;
+        let table = keyed_table(alloc, declared, get)?;
+        let choice = choose(
+            alloc,
+            &table,
+            conditions.as_slice(),
+            texts_at(alloc, &[lists])?.as_slice(),
+        )?;
+        assert_eq!(rt;
+            shown_choice(alloc, &choice)?.as_str(),
+            want,
+            "{column} {lists}"
+        );
+        assert_eq!(rt; sent.len(), count, "{column} {lists}");
+    }
+    Ok(())
+}
+
+/// A world in which every call gives one null, and an end.
+struct OneNull;
+
+impl World for OneNull {
+    ghost use Rattle.std.specs.Prelude.{true};
+    ghost use Rattle.plain_program.specs.Known.{one_null};
+
+    ghost tells = { true };
+
+    ghost book = { one_null };
+
+    fn answer(alloc: Global, _key: &CallKey) -> Result<Reply, Memory> {
+        let mut items = Items::new(alloc);
+        let Ok(()) = items.push(Cell::Null) else {
+            return Err(Memory);
+        };
+        Ok(Reply {
+            items,
+            ending: Ending::End,
+        })
+    }
+
+    fn answer_version(_alloc: Global, _connection: &Text, _tick: u64) -> Result<Version, Memory> {
+        Ok(Version::Is(7))
+    }
+
+    fn answer_declaration(_alloc: Global, _connection: &Text) -> Result<Value, Memory> {
+        Ok(Value::Null)
+    }
+}
+
+#[test]
+fn a_world_that_tells_has_scan_values(rt: HostRuntime) -> Result<(), Fail> {
+    let alloc = rt.alloc();
+    let table = bucket_table(alloc, false)?;
+    let request = request_at(alloc, Access::List, &["name", "policy"], None)?;
+    let version = OneNull::answer_version(alloc, &request.connection, 0)?;
+    let value = scan_value::<OneNull>(alloc, &table, &request, &version)?;
+    let Some(ScanValue::Rows(rows)) = value else {
+        return Err("no rows")?;
+    };
+    assert_eq!(rt; shown_rows(alloc, &rows)?.as_str(), "[[null,null]]");
+    let bad = Version::Bad(text_at(alloc, "gone")?);
+    let value = scan_value::<OneNull>(alloc, &table, &request, &bad)?;
+    assert!(rt; matches!(value, Some(ScanValue::Failed { row: 0, .. })));
     Ok(())
 }
