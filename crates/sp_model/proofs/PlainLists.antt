@@ -11,7 +11,7 @@ use Rattle.sp_model.specs.Hydration.{hydrated}
 use Rattle.sp_model.specs.PlainList.{plain_table, plain_request, plain_key, has_no_function, plain_cell, plain_row, plain_end, plain_next, plain_rows, plain_value, PlainListIsItsItems}
 use Rattle.sp_model.specs.RowOf.{column_of, source_of, with_cell, row_of, columns_named, checked}
 use Rattle.sp_model.specs.Settling.{Answers, answers_of, judged}
-use Rattle.sp_model.specs.Walk.{State, start, Walk, Waiting, and_then, visit_all, visit_item, with_row, walk_value, Source, ended}
+use Rattle.sp_model.specs.Walk.{start, and_then, visit_all, visit_item, with_row, walk_value, Source, ended}
 use Rattle.sp_model.specs.declared.call.Ending.{Ending}
 use Rattle.sp_model.specs.declared.call.Ending.TheVariants.{End, Error}
 use Rattle.sp_model.specs.declared.call.Reply.{Reply}
@@ -23,6 +23,9 @@ use Rattle.sp_model.specs.declared.outcome.Row.{Row}
 use Rattle.sp_model.specs.declared.outcome.Row.TheVariants.{Whole, Broken}
 use Rattle.sp_model.specs.declared.outcome.ScanValue.{ScanValue}
 use Rattle.sp_model.specs.declared.outcome.ScanValue.TheVariants.{Rows, Failed}
+use Rattle.sp_model.specs.declared.outcome.Walk.{Walk}
+use Rattle.sp_model.specs.declared.outcome.Walk.TheVariants.{Waiting}
+use Rattle.sp_model.specs.declared.outcome.WalkState.{WalkState}
 
 source_plain : (gives : List ℕ → Option Outcome) (item : Cell) (f : Option (List ℕ)) → is_none f ≡ true → source_of gives item f ≡ Some (Gave item)
 source_plain gives item None h = refl
@@ -49,7 +52,7 @@ row_plain gives (k ∷ ks) item h =
     ∙ ap (λ row. with_cell k.name (Some (checked k.kind (field k.field item))) row) later
     ∙ with_cell_plain k.name (checked k.kind (field k.field item)) (plain_row ks item)
 
-any_there : {X : Type 0} (test : X → Bool) (before : List X) (x : X) (after : List X) → test x ≡ true → list_any test (before ++ x ∷ after) ≡ true
+pub any_there : {X : Type 0} (test : X → Bool) (before : List X) (x : X) (after : List X) → test x ≡ true → list_any test (before ++ x ∷ after) ≡ true
 any_there test [] x after h = ap (λ b. b || list_any test after) h
 any_there test (y ∷ ys) x after h = ap (λ b. test y || b) (any_there test ys x after h) ∙ or-true (test y)
 
@@ -85,37 +88,37 @@ with_more before cells number (Failed row column cause) = refl
 abbrev plain_source : List ℕ → Source
 plain_source function = record { function = function; rule = record { ignore = None; retry = None }; single = false }
 
-abbrev ends : List ℕ → Ending → ℕ → Walk → State → Walk
+abbrev ends : List ℕ → Ending → ℕ → Walk → WalkState → Walk
 ends function ending count again t = ended (plain_source function) 1 (judged (record { ignore = None; retry = None }) 1 (Some ending)) count t again
 
-ends_so : (function : List ℕ) (ending : Ending) (count : ℕ) (again : Walk) (s : State)
+ends_so : (function : List ℕ) (ending : Ending) (count : ℕ) (again : Walk) (s : WalkState)
     → walk_value (ends function ending count again s) ≡ Some (with_rows s.rows (plain_end function (suc s.items) ending))
 ends_so function End count again s = ap (λ rows. Some (Rows rows)) (sym (append-nil s.rows))
 ends_so function (Error text) count again s = refl
 
 module _ (function : List ℕ) (columns : List ColumnDecl) (ending : Ending) (count : ℕ) (again : Walk) where
-  abbrev visit_row : Row → State → Walk
+  abbrev visit_row : Row → WalkState → Walk
   visit_row row s = with_row [] columns None (Some row) s
 
-  abbrev visit_plain : Cell → State → Walk
+  abbrev visit_plain : Cell → WalkState → Walk
   visit_plain item s = visit_row (plain_row columns item) s
 
-  next_row : (items : List Cell) (rest : State → Walk) (row : Row) (s : State)
-      → ((t : State) → walk_value (rest t) ≡ Some (with_rows t.rows (plain_rows columns function t.items items ending)))
+  next_row : (items : List Cell) (rest : WalkState → Walk) (row : Row) (s : WalkState)
+      → ((t : WalkState) → walk_value (rest t) ≡ Some (with_rows t.rows (plain_rows columns function t.items items ending)))
       → walk_value (and_then (visit_row row s) rest) ≡ Some (with_rows s.rows (plain_next (suc s.items) row (plain_rows columns function (suc s.items) items ending)))
   next_row items rest (Broken column cause) s h = refl
   next_row items rest (Whole cells) s h =
-      let t : State = record { rows = s.rows ++ cells ∷ []; items = suc s.items; steady = s.steady } in
+      let t : WalkState = record { rows = s.rows ++ cells ∷ []; items = suc s.items; steady = s.steady } in
       h t ∙ ap (λ v. Some v) (with_more s.rows cells (suc s.items) (plain_rows columns function (suc s.items) items ending))
 
-  walk_plain : (items : List Cell) (s : State)
+  walk_plain : (items : List Cell) (s : WalkState)
       → walk_value (and_then (visit_all visit_plain items s) (ends function ending count again)) ≡ Some (with_rows s.rows (plain_rows columns function s.items items ending))
   walk_plain [] s = ends_so function ending count again s
   walk_plain (item ∷ items) s = ap walk_value (and_then_assoc (visit_plain item s) (λ t. visit_all visit_plain items t) (ends function ending count again))
       ∙ next_row items (λ t. and_then (visit_all visit_plain items t) (ends function ending count again)) (plain_row columns item) s (walk_plain items)
 
 -- visits that do the same give the same walk
-pub visits_same : (first second : Cell → State → Walk) → ((item : Cell) (s : State) → first item s ≡ second item s) → (items : List Cell) (s : State)
+pub visits_same : (first second : Cell → WalkState → Walk) → ((item : Cell) (s : WalkState) → first item s ≡ second item s) → (items : List Cell) (s : WalkState)
     → visit_all first items s ≡ visit_all second items s
 visits_same first second same [] s = refl
 visits_same first second same (item ∷ items) s =
@@ -129,9 +132,9 @@ plain_list book connection name columns function version h =
     let answers : Answers = answers_of book connection version in
     let gives : Cell → List ℕ → Option Outcome = λ item. λ f. hydrated table answers item f in
     let again : Walk = Waiting in
-    let plain : Cell → State → Walk = visit_plain function columns reply.ending (length reply.items) again in
-    let visit : Cell → State → Walk = λ item. λ s. visit_item table (plain_request connection name columns) answers item s in
-    let same : (item : Cell) (s : State) → visit item s ≡ plain item s = λ item. λ s.
+    let plain : Cell → WalkState → Walk = visit_plain function columns reply.ending (length reply.items) again in
+    let visit : Cell → WalkState → Walk = λ item. λ s. visit_item table (plain_request connection name columns) answers item s in
+    let same : (item : Cell) (s : WalkState) → visit item s ≡ plain item s = λ item. λ s.
     ap (λ cs. with_row [] cs None (row_of (gives item) cs item) s) (named_all columns)
     ∙ ap (λ row. with_row [] columns None row s) (row_plain (gives item) columns item h) in
     ap (λ w. walk_value (and_then w (ends function reply.ending (length reply.items) again))) (visits_same visit plain same reply.items start)

@@ -10,9 +10,10 @@ use Rattle.sp_model.specs.declared.declaration.FunctionDecl.{FunctionDecl}
 use Rattle.sp_model.specs.declared.declaration.TableDecl.{TableDecl}
 use Rattle.sp_model.specs.declared.outcome.Outcome.{Outcome}
 use Rattle.sp_model.specs.declared.outcome.Outcome.TheVariants.{Gave, Fails}
+use Rattle.sp_model.specs.declared.outcome.Results.{Results}
+use Rattle.sp_model.specs.declared.outcome.Results.TheVariants.{Given, Missed, Pending}
 use Rattle.sp_model.specs.declared.outcome.Settled.{Settled}
 use Rattle.sp_model.specs.declared.outcome.Settled.TheVariants.{Items, Refused}
-use Rattle.sp_model.specs.declared.scan.Cause.{Cause}
 use Rattle.sp_model.specs.declared.scan.Cause.TheVariants.{Error, TooMany}
 
 -- a value put under a name, among values whose names rise
@@ -20,12 +21,7 @@ abbrev pub put_under : {X : Type 0} → List ℕ → X → List (List ℕ × X) 
 put_under name x [] = (name, x) ∷ []
 put_under name x (m ∷ ms) = match_ordering (slice_cmp nat_cmp name m.0) ((name, x) ∷ m ∷ ms) ((name, x) ∷ ms) (m ∷ put_under name x ms)
 
--- the results of dependencies under their names, the first failure among them, or that one before it isn't known yet
-pub data Results : Type 0 where
-  Given : List (List ℕ × Cell) → Results
-  Missed : Cause → Results
-  Pending : Results
-
+-- a result beside those of the functions after it: the first failure stays, and what isn't known yet hides what comes after it
 abbrev pub with_result : List ℕ → Option Outcome → Results → Results
 with_result name None rest = Pending
 with_result name (Some (Fails cause)) rest = Missed cause

@@ -1,10 +1,17 @@
 pub mod Book
+pub mod Calls
 pub mod Conditions
+pub mod Covers
 pub mod Fields
 pub mod Hydration
+pub mod Keys
+pub mod Laws
 pub mod Names
 pub mod PlainList
 pub mod RowOf
 pub mod Sayable
 pub mod Settling
+pub mod SubsetKeys
+pub mod TrueNote
+pub mod Units
 pub mod Walk

@@ -1,5 +1,5 @@
 -- The row of an item.
-use Rattle.std.specs.Prelude.{ℕ, List, [], ◌∷◌, filter, Option, Some, None, if◌then◌else◌, bytes_eq}
+use Rattle.std.specs.Prelude.{ℕ, Bool, List, [], ◌∷◌, filter, Option, Some, None, if◌then◌else◌, bytes_eq}
 use Rattle.std.specs.List.{list_any}
 use Rattle.sp_value.specs.declared.cell.Cell.{Cell}
 use Rattle.sp_value.specs.declared.kind.Kind.{Kind}
@@ -11,9 +11,12 @@ use Rattle.sp_model.specs.declared.outcome.Row.{Row}
 use Rattle.sp_model.specs.declared.outcome.Row.TheVariants.{Whole, Broken}
 use Rattle.sp_model.specs.declared.scan.Cause.TheVariants.{BadValue}
 
+abbrev pub has_name : List (List ℕ) → List ℕ → Bool
+has_name names name = list_any (bytes_eq name) names
+
 -- the columns of these names, in the order of the table
 abbrev pub columns_named : List (List ℕ) → List ColumnDecl → List ColumnDecl
-columns_named names columns = filter (λ column. list_any (bytes_eq column.name) names) columns
+columns_named names columns = filter (λ column. has_name names column.name) columns
 
 -- a value of the column's kind, or a bad value
 abbrev pub checked : Kind → Cell → Outcome

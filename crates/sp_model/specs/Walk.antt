@@ -26,30 +26,20 @@ use Rattle.sp_model.specs.declared.outcome.Row.{Row}
 use Rattle.sp_model.specs.declared.outcome.Row.TheVariants.{Whole, Broken}
 use Rattle.sp_model.specs.declared.outcome.ScanValue.{ScanValue}
 use Rattle.sp_model.specs.declared.outcome.ScanValue.TheVariants.{Rows, Failed as FailedAt}
+use Rattle.sp_model.specs.declared.outcome.Walk.{Walk}
+use Rattle.sp_model.specs.declared.outcome.Walk.TheVariants.{Going, Full, Failed, Waiting}
+use Rattle.sp_model.specs.declared.outcome.WalkState.{WalkState}
 use Rattle.sp_model.specs.declared.scan.Access.{Access}
 use Rattle.sp_model.specs.declared.scan.Access.TheVariants.{Get, List as OfList, Parents}
-use Rattle.sp_model.specs.declared.scan.Cause.{Cause}
 use Rattle.sp_model.specs.declared.scan.Cause.TheVariants.{Error, TooMany, BadVersion}
 use Rattle.sp_model.specs.declared.scan.ScanRequest.{ScanRequest}
 
--- the rows kept, the number of items, and whether no list, get or parents call was asked again
-pub record State : Type 0 where
-  pub rows : List (List Cell)
-  pub items : ℕ
-  pub steady : Bool
-
-abbrev pub start : State
+-- no rows yet
+abbrev pub start : WalkState
 start = record { rows = []; items = 0; steady = true }
 
--- how far a walk came: it goes on, is full, failed at a row, or waits for what isn't known yet
-pub data Walk : Type 0 where
-  Going : State → Walk
-  Full : State → Walk
-  Failed : (row : ℕ) (column : Option (List ℕ)) (cause : Cause) → Walk
-  Waiting : Walk
-
 -- a walk that goes on goes on so
-abbrev pub and_then : Walk → (State → Walk) → Walk
+abbrev pub and_then : Walk → (WalkState → Walk) → Walk
 and_then (Going s) more = more s
 and_then (Full s) more = Full s
 and_then (Failed row column cause) more = Failed row column cause
@@ -74,14 +64,14 @@ abbrev pub is_reached : Option ℕ → ℕ → Bool
 is_reached None count = false
 is_reached (Some limit) count = nat_le limit count
 
-abbrev pub with_row_kept : Option ℕ → List (List Cell) → State → Walk
+abbrev pub with_row_kept : Option ℕ → List (List Cell) → WalkState → Walk
 with_row_kept limit rows s =
     if is_reached limit (length rows)
     then Full (record { rows = rows; items = suc s.items; steady = s.steady })
     else Going (record { rows = rows; items = suc s.items; steady = s.steady })
 
 -- a row is kept where it meets the conditions, and a row that fails fails the walk at its number
-abbrev pub with_row : List Condition → List ColumnDecl → Option ℕ → Option Row → State → Walk
+abbrev pub with_row : List Condition → List ColumnDecl → Option ℕ → Option Row → WalkState → Walk
 with_row conditions columns limit None s = Waiting
 with_row conditions columns limit (Some (Broken column cause)) s = Failed (suc s.items) (Some column) cause
 with_row conditions columns limit (Some (Whole cells)) s =
@@ -90,7 +80,7 @@ with_row conditions columns limit (Some (Whole cells)) s =
     else Going (record { rows = s.rows; items = suc s.items; steady = s.steady })
 
 -- an item of a list or get
-abbrev pub visit_item : TableDecl → ScanRequest → Answers → Cell → State → Walk
+abbrev pub visit_item : TableDecl → ScanRequest → Answers → Cell → WalkState → Walk
 visit_item table request answers item s =
     let columns : List ColumnDecl = columns_named request.columns table.columns in
     with_row request.conditions columns request.limit (row_of (hydrated table answers item) columns item) s
@@ -98,7 +88,7 @@ visit_item table request answers item s =
 -- ---- a call
 
 -- items one after another, where `visit` says what one of them does
-abbrev pub visit_all : (Cell → State → Walk) → List Cell → State → Walk
+abbrev pub visit_all : (Cell → WalkState → Walk) → List Cell → WalkState → Walk
 visit_all visit [] s = Going s
 visit_all visit (item ∷ items) s = and_then (visit item s) (λ t. visit_all visit items t)
 
@@ -108,32 +98,32 @@ pub record Source : Type 0 where
   pub rule : Rule
   pub single : Bool
 
-abbrev pub accepted : Source → ℕ → State → Walk
+abbrev pub accepted : Source → ℕ → WalkState → Walk
 accepted source count s = if source.single && nat_lt 1 count then Failed (suc s.items) None (TooMany source.function count) else Going s
 
 -- after the items of an attempt: `again` is the walk of the next attempt
-abbrev pub ended : Source → ℕ → Verdict → ℕ → State → Walk → Walk
+abbrev pub ended : Source → ℕ → Verdict → ℕ → WalkState → Walk → Walk
 ended source attempt Accept count s again = accepted source count s
 ended source attempt Again count s again = again
 ended source attempt (Refuse text) count s again = Failed (suc s.items) None (Error source.function attempt text)
 ended source attempt Open count s again = Waiting
 
-abbrev pub unsteady : State → State
+abbrev pub unsteady : WalkState → WalkState
 unsteady s = record { rows = s.rows; items = s.items; steady = false }
 
 -- at most n attempts, from this one on; each begins in the state at the call's beginning, so that what an earlier one gave is dropped
-abbrev pub walk_in : ℕ → (Cell → State → Walk) → Source → (ℕ → Seen) → ℕ → State → Walk
+abbrev pub walk_in : ℕ → (Cell → WalkState → Walk) → Source → (ℕ → Seen) → ℕ → WalkState → Walk
 walk_in zero visit source replies attempt s = Waiting
 walk_in (suc n) visit source replies attempt s =
     and_then (visit_all visit (replies attempt).items s)
     (λ t. ended source attempt (judged source.rule attempt (replies attempt).ending) (length (replies attempt).items) t
     (walk_in n visit source replies (suc attempt) (unsteady s)))
 
-abbrev pub walk_from : (Cell → State → Walk) → Source → (ℕ → Seen) → ℕ → State → Walk
+abbrev pub walk_from : (Cell → WalkState → Walk) → Source → (ℕ → Seen) → ℕ → WalkState → Walk
 walk_from visit source replies attempt s = walk_in (suc (attempts_of source.rule.retry - attempt)) visit source replies attempt s
 
 -- the walk of a call
-abbrev pub walk : (Cell → State → Walk) → Source → (ℕ → Seen) → State → Walk
+abbrev pub walk : (Cell → WalkState → Walk) → Source → (ℕ → Seen) → WalkState → Walk
 walk visit source replies s = walk_from visit source replies 1 s
 
 -- ---- a scan
@@ -158,11 +148,11 @@ parent_of None = None
 parent_of (Some d) = d.parent
 
 -- a list or get: its items
-abbrev pub walk_items : TableDecl → ScanRequest → Answers → Source → Call → State → Walk
+abbrev pub walk_items : TableDecl → ScanRequest → Answers → Source → Call → WalkState → Walk
 walk_items table request answers source asked s = walk (visit_item table request answers) source (answers asked) s
 
 -- a parent is visited by the walk of its child list
-abbrev pub visit_parent : TableDecl → ScanRequest → Answers → Cell → State → Walk
+abbrev pub visit_parent : TableDecl → ScanRequest → Answers → Cell → WalkState → Walk
 visit_parent table request answers parent s =
     walk_items table request answers (list_source table table.list) (call.List table.name request.conditions (Some parent)) s
 

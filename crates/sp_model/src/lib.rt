@@ -16,8 +16,11 @@ pub use declaration::{
     AccessDecl, Backoff, ColumnDecl, Declaration, FunctionDecl, GetDecl, KeyDecl, ListDecl,
     Matching, Need, Patterns, Retry, Rule, TableDecl,
 };
-pub use laws::plain_list_is_its_items;
+pub use laws::{
+    call_has_at_most_its_attempts, hydration_needs_its_dependencies, ignored_error_keeps_items,
+    plain_list_is_its_items, whole_call_is_settled,
+};
 pub use names::{is_connection_name, is_name, is_word};
-pub use outcome::{Outcome, Row, ScanValue, Settled};
+pub use outcome::{Outcome, Results, Row, ScanValue, Settled, Walk, WalkState};
 pub use scan::{Access, Cause, Mark, ScanNote, ScanNotes, ScanRequest, Seat};
 pub use settings::{Connection, Limiter, Options, Pair, Settings};

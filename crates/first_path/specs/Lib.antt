@@ -1,6 +1,0 @@
-pub mod Answers
-pub mod Asking
-pub mod FirstLine
-pub mod Plain
-pub mod PlainScan
-pub mod Words
