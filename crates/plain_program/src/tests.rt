@@ -285,18 +285,29 @@ const TWO_ACLS: &str =
 const OWNERS: &str =
     "[[\"parents\",\"\",1,[{\"name\":\"p\"},{\"name\":\"q\"}],null],[\"list\",\"p\",1,[{\"bucket\":\"p\",\"name\":\"k1\"},{\"bucket\":\"p\",\"name\":\"k2\"}],null],[\"list\",\"q\",1,[{\"bucket\":\"q\",\"name\":\"k3\"}],null]]";
 
+fn scanned(
+    alloc: Global,
+    script: &str,
+    parents: bool,
+    columns: &[&str],
+    limit: Option<u64>,
+) -> Result<String, Fail> {
+    let access = if parents {
+        Access::Parents
+    } else {
+        Access::List
+    };
+    let table = bucket_table(alloc, parents)?;
+    let request = request_at(alloc, access, columns, limit)?;
+    let walk = scan_walk(alloc, &script_at(alloc, script)?, &table, &request)?;
+    shown(alloc, &walk)
+}
+
 #[test]
-fn a_scan_gives_its_rows_or_its_first_failure(rt: HostRuntime) -> Result<(), Fail> {
+fn functions_wait_for_their_dependencies_and_the_first_failure_counts(
+    rt: HostRuntime,
+) -> Result<(), Fail> {
     for (script, parents, columns, limit, want) in [
-        (
-            THREE,
-            false,
-            ["name", ""],
-            None,
-            "[[\"b1\"],[\"b2\"],[\"b3\"]]",
-        ),
-        (THREE, false, ["name", ""], Some(2), "[[\"b1\"],[\"b2\"]]"),
-        (THREE, false, ["acl", ""], None, "waiting"),
         (POLICIES, false, ["policy", ""], None, "[[\"p\"],[\"q\"]]"),
         (POLICIES, false, ["acl", ""], None, "[[\"x\"],[null]]"),
         (
@@ -328,6 +339,25 @@ fn a_scan_gives_its_rows_or_its_first_failure(rt: HostRuntime) -> Result<(), Fai
             None,
             "row 1 column acl: getAcl attempt 3: Throttled",
         ),
+    ] {
+        let found = scanned(rt.alloc(), script, parents, columns.as_slice(), limit)?;
+        assert_eq!(rt; found.as_str(), want, "{script}");
+    }
+    Ok(())
+}
+
+#[test]
+fn a_list_is_asked_again_ignored_or_fails(rt: HostRuntime) -> Result<(), Fail> {
+    for (script, parents, columns, limit, want) in [
+        (
+            THREE,
+            false,
+            ["name", ""],
+            None,
+            "[[\"b1\"],[\"b2\"],[\"b3\"]]",
+        ),
+        (THREE, false, ["name", ""], Some(2), "[[\"b1\"],[\"b2\"]]"),
+        (THREE, false, ["acl", ""], None, "waiting"),
         (NOT_FOUND, false, ["name", ""], None, "[[\"b1\"],[\"b2\"]]"),
         (AGAIN, false, ["name", ""], None, "[[\"b4\"]]"),
         (AGAIN, false, ["name", ""], Some(2), "[[\"b1\"],[\"b2\"]]"),
@@ -338,6 +368,16 @@ fn a_scan_gives_its_rows_or_its_first_failure(rt: HostRuntime) -> Result<(), Fai
             None,
             "row 3: list attempt 1: Broken",
         ),
+    ] {
+        let found = scanned(rt.alloc(), script, parents, columns.as_slice(), limit)?;
+        assert_eq!(rt; found.as_str(), want, "{script}");
+    }
+    Ok(())
+}
+
+#[test]
+fn bad_values_too_many_items_and_parents(rt: HostRuntime) -> Result<(), Fail> {
+    for (script, parents, columns, limit, want) in [
         (
             BAD,
             false,
@@ -367,16 +407,8 @@ fn a_scan_gives_its_rows_or_its_first_failure(rt: HostRuntime) -> Result<(), Fai
             "[[\"p\",\"k1\"],[\"p\",\"k2\"]]",
         ),
     ] {
-        let alloc = rt.alloc();
-        let access = if parents {
-            Access::Parents
-        } else {
-            Access::List
-        };
-        let table = bucket_table(alloc, parents)?;
-        let request = request_at(alloc, access, columns.as_slice(), limit)?;
-        let walk = scan_walk(alloc, &script_at(alloc, script)?, &table, &request)?;
-        assert_eq!(rt; shown(alloc, &walk)?.as_str(), want, "{script}");
+        let found = scanned(rt.alloc(), script, parents, columns.as_slice(), limit)?;
+        assert_eq!(rt; found.as_str(), want, "{script}");
     }
     Ok(())
 }
