@@ -1,5 +1,0 @@
-pub mod Cells
-pub mod Hydrating
-pub mod Putting
-pub mod Settles
-pub mod Walks
