@@ -1,0 +1,11 @@
+pub mod Covering
+pub mod FewerColumns
+pub mod Filtering
+pub mod Growing
+pub mod LawfulCalls
+pub mod Merging
+pub mod Orders
+pub mod Served
+pub mod Simulating
+pub mod UnitsAndNotes
+pub mod Whole

@@ -1,0 +1,4 @@
+pub mod Covered
+pub mod LawfulScans
+pub mod UnitsAndNotes
+pub mod WholeBook
