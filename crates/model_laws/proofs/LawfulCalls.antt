@@ -10,7 +10,8 @@ use Rattle.std.specs.declared.cmp.Ordering.{Ordering}
 use Rattle.std.specs.declared.cmp.Ordering.TheVariants.{Less, Equal, Greater}
 use Rattle.sp_value.specs.Names.{names_of}
 use Rattle.sp_value.specs.declared.cell.Cell.{Cell}
-use Rattle.sp_model.specs.Calls.{is_attempt, fit_keys, are_results_of, same_presence, is_lawful_list, is_lawful_parents, is_lawful_get, is_lawful_hydrate, is_lawful_by, is_wanted, decides_columns, on_again, attempts_in, calls_with, calls_of, used_item, reach_item, on_going, calls_all, calls_in, calls_of_walk, child_call, calls_by, pass_item, pass_parent}
+use Rattle.sp_model.proofs.PlainLists.{any_there}
+use Rattle.sp_model.specs.Calls.{used, reach, is_lawful, is_attempt, fit_keys, are_results_of, same_presence, is_lawful_list, is_lawful_parents, is_lawful_get, is_lawful_hydrate, is_lawful_by, is_wanted, decides_columns, on_again, attempts_in, calls_with, calls_of, used_item, reach_item, on_going, calls_all, calls_in, calls_of_walk, child_call, calls_by, pass_item, pass_parent}
 use Rattle.sp_model.specs.Hydration.{put_under, with_result, results_of, find_function, hydrated}
 use Rattle.sp_model.specs.Keys.{is_equality}
 use Rattle.sp_model.specs.RowOf.{has_name, columns_named}
@@ -37,7 +38,7 @@ use Rattle.sp_model.specs.declared.scan.Access.{Access}
 use Rattle.sp_model.specs.declared.scan.Access.TheVariants.{Get, List as OfList, Parents}
 use Rattle.sp_model.specs.declared.scan.ScanRequest.{ScanRequest}
 use Rattle.model_laws.specs.Covered.{are_distinct}
-use Rattle.model_laws.specs.LawfulScans.{has_attempts, is_lawful_get_scan, is_lawful_list_scan, has_parent_attempts, is_lawful_parents_scan, is_lawful_access, names_of_functions, LawfulScanMakesLawfulCalls}
+use Rattle.model_laws.specs.LawfulScans.{are_lawful, has_attempts, is_lawful_get_scan, is_lawful_list_scan, has_parent_attempts, is_lawful_parents_scan, is_lawful_access, names_of_functions, LawfulScanMakesLawfulCalls}
 use Rattle.model_laws.proofs.FewerColumns.{bytes_itself}
 use Rattle.model_laws.proofs.Merging.{left, right}
 use Rattle.model_laws.proofs.Whole.{Means, ending_means}
@@ -326,17 +327,25 @@ module _ (table : TableDecl) (answers : Answers) where
     scan_lawful OfList h = plain_list_lawful table.list refl h
     scan_lawful Parents h = parents_lawful table.list refl h
 
+-- what is lawful by its table is lawful by the tables among which that stands
+declared : (before after : List TableDecl) (table : TableDecl) (calls : Calls) → list_all (λ one. is_lawful_by table one.0 one.1) calls ≡ true → are_lawful (before ++ table ∷ after) calls ≡ true
+declared before after table calls h =
+    all_weaker (λ (one : Call × ℕ). is_lawful_by table one.0 one.1) (λ one. is_lawful (before ++ table ∷ after) one.0 one.1)
+    (λ one k. any_there (λ t. is_lawful_by t one.0 one.1) before table after k) calls h
+
 pub lawful_calls : LawfulScanMakesLawfulCalls
-lawful_calls table request answers h =
+lawful_calls before after table request answers h =
     let access : Bool = is_lawful_access table request.conditions request.access in
     let distinct : Bool = are_distinct (names_of_functions table.functions) in
     let tried : Bool = list_all (λ (f : FunctionDecl). has_attempts table f.ignore f.retry) table.functions in
     let a : access ≡ true = left access distinct (left (access && distinct) tried h) in
-    let ready : EachReady table answers table.functions table.functions = all_ready table answers table.functions (right access distinct (left (access && distinct) tried h)) (right (access && distinct) tried h) in (
-      scan_lawful table answers request (visit_item table request answers) (used_item table request answers) (visit_parent table request answers)
-          (λ item s. functions_lawful table answers item (λ f. decides_columns table.functions (hydrated table answers item) item f.name (columns_named request.columns table.columns)) table.functions ready)
-          request.access a,
-      scan_lawful table answers request pass_item (reach_item table request answers) (pass_parent table request answers)
-          (λ item s. functions_lawful table answers item (λ f. is_wanted table.functions (columns_named request.columns table.columns) f.name) table.functions ready)
-          request.access a,
-    )
+    let ready : EachReady table answers table.functions table.functions = all_ready table answers table.functions (right access distinct (left (access && distinct) tried h)) (right (access && distinct) tried h) in
+    let taken : list_all (lawful table answers) (used table request answers) ≡ true =
+    scan_lawful table answers request (visit_item table request answers) (used_item table request answers) (visit_parent table request answers)
+    (λ item s. functions_lawful table answers item (λ f. decides_columns table.functions (hydrated table answers item) item f.name (columns_named request.columns table.columns)) table.functions ready)
+    request.access a in
+    let far : list_all (lawful table answers) (reach table request answers) ≡ true =
+    scan_lawful table answers request pass_item (reach_item table request answers) (pass_parent table request answers)
+    (λ item s. functions_lawful table answers item (λ f. is_wanted table.functions (columns_named request.columns table.columns) f.name) table.functions ready)
+    request.access a in
+    (declared before after table (used table request answers) taken, declared before after table (reach table request answers) far)

@@ -1,7 +1,7 @@
 -- A lawful scan makes lawful calls alone.
-use Rattle.std.specs.Prelude.{◌≡◌, ℕ, Bool, true, false, ◌&&◌, nat_le, List, map, Option, Some, None, is_none}
+use Rattle.std.specs.Prelude.{◌≡◌, ℕ, Bool, true, false, ◌&&◌, nat_le, List, ◌∷◌, ◌++◌, map, Option, Some, None, is_none}
 use Rattle.std.specs.List.{list_all}
-use Rattle.sp_model.specs.Calls.{fit_keys, is_lawful_by, used, reach}
+use Rattle.sp_model.specs.Calls.{fit_keys, is_lawful, used, reach}
 use Rattle.sp_model.specs.Keys.{is_equality}
 use Rattle.sp_model.specs.Settling.{Answers, rule_of, attempts_of}
 use Rattle.sp_model.specs.declared.call.Call.{Call}
@@ -53,12 +53,12 @@ is_lawful_scan table request =
     && are_distinct (names_of_functions table.functions)
     && list_all (λ f. has_attempts table f.ignore f.retry) table.functions
 
-abbrev pub are_lawful : TableDecl → List (Call × ℕ) → Bool
-are_lawful table calls = list_all (λ one. is_lawful_by table one.0 one.1) calls
+abbrev pub are_lawful : List TableDecl → List (Call × ℕ) → Bool
+are_lawful tables calls = list_all (λ one. is_lawful tables one.0 one.1) calls
 
--- whatever the answers are, a lawful scan uses and reaches lawful calls alone: their functions are declared, their conditions meet the keys, their attempts are
+-- whatever the answers are, a lawful scan of a declared table uses and reaches lawful calls alone: their functions are declared, their conditions meet the keys, their attempts are
 -- within the rule's number, and functions are called with exactly the results of their dependencies
 abbrev pub LawfulScanMakesLawfulCalls : Type 0
-LawfulScanMakesLawfulCalls = (table : TableDecl) (request : ScanRequest) (answers : Answers)
+LawfulScanMakesLawfulCalls = (before after : List TableDecl) (table : TableDecl) (request : ScanRequest) (answers : Answers)
     → is_lawful_scan table request ≡ true
-    → (are_lawful table (used table request answers) ≡ true) × (are_lawful table (reach table request answers) ≡ true)
+    → (are_lawful (before ++ table ∷ after) (used table request answers) ≡ true) × (are_lawful (before ++ table ∷ after) (reach table request answers) ≡ true)
