@@ -1,0 +1,4 @@
+pub mod Known
+pub mod Script
+pub mod Sources
+pub mod Worked
