@@ -1,0 +1,8 @@
+mod Ends
+mod Honest
+mod Pieces
+mod PlainTables
+mod Reading
+mod Scans
+mod Sizes
+mod Started

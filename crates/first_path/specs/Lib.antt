@@ -1,0 +1,6 @@
+pub mod Answers
+pub mod Asking
+pub mod FirstLine
+pub mod Plain
+pub mod PlainScan
+pub mod Words
