@@ -14,6 +14,8 @@ mod rules;
 mod table_rule;
 mod tables;
 mod taking;
+#[cfg(test)]
+mod tests;
 mod words;
 
 pub use fault::DeclFault;
