@@ -190,19 +190,20 @@ fn taken_out<'a>(alloc: Global, functions: &'a [FunctionDecl]) -> Result<NameSet
 
 fn names_that_stay(
     alloc: Global,
-    functions: &[FunctionDecl],
+    mut functions: &[FunctionDecl],
     taken: &NameSet,
 ) -> Result<Texts, Memory>
-    ensures { IfOk result (λ names. names ≡ names_of_functions (filter (stays taken.now) functions.now)) }
+    ensures { IfOk result (λ names. names ≡ names_of_functions (filter (stays taken.now) functions.entry.now)) }
 {
     let mut names = Items::new(alloc);
-    for function in functions {
-        if !taken.contains(function.name.as_str()) {
-            let name = function.name.copy(alloc)?;
+    while let [first, rest @ ..] = functions {
+        if !taken.contains(first.name.as_str()) {
+            let name = first.name.copy(alloc)?;
             let Ok(()) = names.push(name) else {
                 return Err(Memory);
             };
         }
+        functions = rest;
     }
     Ok(names)
 }
