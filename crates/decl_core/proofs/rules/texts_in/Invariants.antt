@@ -1,0 +1,9 @@
+-- The texts so far, followed by those of the items that are left, are all.
+use Rattle.std.proofs.Common.{◌≡◌, ◌++◌, drop, option_map}
+use Rattle.serde_json.specs.Find.{as_str}
+use Rattle.serde_json.specs.View.{items_view}
+use Rattle.decl_core.specs.Members.{each}
+use Rattle.decl_core.proofs.rules.texts_in.Given as goal
+
+abbrev pub invariant-loop-value : goal.invariant-loop-value
+invariant-loop-value l = each as_str (items_view l.values.items) ≡ option_map (λ rest. l.texts ++ rest) (each as_str (items_view (drop l.value-index l.value-items)))
