@@ -1,0 +1,5 @@
+pub mod Blocks
+pub mod Csv
+pub mod Notes
+pub mod Running
+pub mod Spelled

@@ -1,0 +1,143 @@
+ghost use Rattle.std.specs.Prelude.{◌≡◌, ◌≤◌, [], IfOk};
+
+use sp_model::Connection;
+use sp_outside::{Child, ChildEnd, Failed, Nursery};
+use sp_value::Memory;
+use sp_world::Untold;
+use std::alloc::Global;
+
+/// A child that gives the lines of a script in order, whatever it hears, and then fails.
+#[derive(Drop)]
+pub(crate) struct ScriptedChild {
+    alloc: Global,
+    script: &'static [&'static [u8]],
+    pub(crate) heard: Vec<Vec<u8>>,
+    last: Vec<u8>,
+    runs: bool,
+    faults: u64,
+    sent: u64,
+    given: u64,
+}
+
+fn copy(alloc: Global, line: &[u8]) -> Result<Vec<u8>, ChildEnd>
+    ensures { IfOk result (λ v. v.items ≡ line.now) }
+{
+    match Vec::from_slice(alloc, line) {
+        Ok(copy) => Ok(copy),
+        Err(_) => Err(ChildEnd::Memory),
+    }
+}
+
+impl Child<Untold> for ScriptedChild {
+    ghost use Rattle.std.specs.Prelude.{[]};
+
+    ghost log = { λ _. [] };
+
+    ghost last = { λ c. c.last.items };
+
+    ghost faulted = { λ c. c.faults };
+
+    ghost sends = { λ c. c.sent };
+
+    ghost gives = { λ c. c.given };
+
+    ghost runs = { λ c. c.runs };
+
+    fn start(&mut self) -> Result<(), Failed> {
+        self.runs = true;
+        Ok(())
+    }
+
+    fn send(&mut self, line: &[u8]) -> Result<(), Failed> {
+        self.sent = self.sent.saturating_add(1);
+        if self.runs {
+            if let Ok(heard) = copy(self.alloc, line) {
+                if self.heard.push(heard).is_ok() {
+                    return Ok(());
+                }
+            }
+        }
+        self.faults = self.faults.saturating_add(1);
+        Err(Failed)
+    }
+
+    fn receive(&mut self, alloc: Global) -> Result<Vec<u8>, ChildEnd> {
+        if self.runs {
+            if let Some((line, rest)) = self.script.split_first() {
+                let given = copy(alloc, line)?;
+                self.last = copy(alloc, line)?;
+                self.script = rest;
+                self.given = self.given.saturating_add(1);
+                return Ok(given);
+            }
+        }
+        self.faults = self.faults.saturating_add(1);
+        Err(ChildEnd::Failed)
+    }
+
+    fn faults(&self) -> u64 {
+        self.faults
+    }
+
+    fn sent(&self) -> u64 {
+        self.sent
+    }
+
+    fn given(&self) -> u64 {
+        self.given
+    }
+}
+
+/// Makes children that all give the lines of one script.
+#[derive(Drop)]
+pub(crate) struct ScriptedNursery {
+    script: &'static [&'static [u8]],
+    made: usize,
+    pub(crate) back: Vec<ScriptedChild>,
+    ghost room: { made ≤ vec_capacity back },
+}
+
+impl ScriptedNursery {
+    pub(crate) fn new(alloc: Global, script: &'static [&'static [u8]]) -> ScriptedNursery
+        ensures made { result.made ≡ 0 }
+        ensures back { result.back.items ≡ [] }
+    {
+        ScriptedNursery {
+            script,
+            made: 0,
+            back: Vec::new(alloc),
+        }
+    }
+}
+
+impl Nursery<Untold> for ScriptedNursery {
+    type Kid = ScriptedChild;
+
+    ghost made = { λ n. n.made };
+
+    ghost back = { λ n. n.back.items };
+
+    fn make(&mut self, alloc: Global, _connection: &Connection) -> Result<ScriptedChild, Memory> {
+        if self.made == usize::MAX {
+            return Err(Memory);
+        }
+        let Ok(()) = self.back.reserve(self.made + 1 - self.back.len()) else {
+            return Err(Memory);
+        };
+        self.made += 1;
+        Ok(ScriptedChild {
+            alloc,
+            script: self.script,
+            heard: Vec::new(alloc),
+            last: Vec::new(alloc),
+            runs: false,
+            faults: 0,
+            sent: 0,
+            given: 0,
+        })
+    }
+
+    fn take_back(&mut self, child: ScriptedChild) {
+        let _ = self.back.push(child);
+    }
+}

@@ -1,0 +1,304 @@
+use crate::scripted::ScriptedNursery;
+use crate::{Status, steampipe};
+use sp_outside::{MemoryClock, MemoryShelf, MemorySink, MemorySource};
+use sp_value::{Memory, Text, Texts};
+use sp_world::Untold;
+use sqlite_items::Items;
+use std::alloc::Global;
+use std::test::Fail;
+
+const DECLARATION: &[u8] =
+    br#"{"id":1,"declaration":{"tables":[{"name":"item","columns":[{"name":"id","kind":"int"},{"name":"name","kind":"text"}],"list":{"function":"listItems"}}]}}"#;
+
+const VERSION: &[u8] = br#"{"id":2,"version":7}"#;
+
+const END: &[u8] = br#"{"id":3,"end":true}"#;
+
+const STATEMENT: &str = "select * from c.item\n";
+
+const BEGAN: &str = "{\"began\":0,\"block\":1,\"session\":1}\n";
+
+const SCAN: &str =
+    "{\"access\":\"list\",\"asked\":0,\"at\":0,\"block\":1,\"columns\":[\"id\",\"name\"],\"conditions\":[],\"connection\":\"c\",\"limit\":null,\"mark\":\"fresh\",\"scan\":1,\"session\":1,\"table\":\"item\",\"version\":7}\n";
+
+const ANT: &[u8] = br#"{"id":3,"item":{"id":1,"name":"ant"}}"#;
+
+const BEE: &[u8] = br#"{"id":3,"item":{"id":2,"name":"bee"}}"#;
+
+const SPENT: &str = "error: connection c: restarts spent (1 losses)\n";
+
+/// What a child gives and an input, and what is answered and noted.
+struct Row {
+    script: &'static [&'static [u8]],
+    input: &'static str,
+    answers: &'static str,
+    notes: &'static [&'static str],
+    status: Status,
+}
+
+const ROWS: [Row; 17] = [
+    Row {
+        script: &[DECLARATION, VERSION, ANT, BEE, END],
+        input: STATEMENT,
+        answers: "id,name\n1,ant\n2,bee\n",
+        notes: &[BEGAN, SCAN],
+        status: Status::Done,
+    },
+    Row {
+        script: &[DECLARATION, VERSION, END],
+        input: "select * from c.item",
+        answers: "id,name\n",
+        notes: &[BEGAN, SCAN],
+        status: Status::Done,
+    },
+    Row {
+        script: &[],
+        input: "",
+        answers: "",
+        notes: &[],
+        status: Status::Done,
+    },
+    Row {
+        script: &[
+            br#"{"id":1,"declaration":{"tables":[{"name":"item","columns":[{"name":"name","kind":"text"},{"name":"data","kind":"json"}],"list":{"function":"listItems"}}]}}"#,
+            VERSION,
+            br#"{"id":3,"item":{"name":"a,b","data":{"y":[1, "z"],"x":null}}}"#,
+            br#"{"id":3,"item":{"name":"a\"b","data":"z"}}"#,
+            br#"{"id":3,"item":{"name":"a\nb"}}"#,
+            END,
+        ],
+        input: STATEMENT,
+        answers: "name,data\n\"a,b\",\"{\"\"x\"\":null,\"\"y\"\":[1,\"\"z\"\"]}\"\n\"a\"\"b\",\"\"\"z\"\"\"\n\"a\nb\",\n",
+        notes: &[
+            BEGAN,
+            "{\"access\":\"list\",\"asked\":0,\"at\":0,\"block\":1,\"columns\":[\"name\",\"data\"],\"conditions\":[],\"connection\":\"c\",\"limit\":null,\"mark\":\"fresh\",\"scan\":1,\"session\":1,\"table\":\"item\",\"version\":7}\n",
+        ],
+        status: Status::Done,
+    },
+    Row {
+        script: &[DECLARATION, VERSION, ANT, br#"{"id":3,"error":"Denied"}"#],
+        input: STATEMENT,
+        answers: "error: scan 1 row 2: listItems attempt 1: Denied\n",
+        notes: &[BEGAN, SCAN],
+        status: Status::Failed,
+    },
+    Row {
+        script: &[
+            DECLARATION,
+            VERSION,
+            ANT,
+            br#"{"id":3,"item":{"id":"x"}}"#,
+            END,
+        ],
+        input: STATEMENT,
+        answers: "error: scan 1 row 2 column id: bad value \"x\"\n",
+        notes: &[BEGAN, SCAN],
+        status: Status::Failed,
+    },
+    Row {
+        script: &[DECLARATION, br#"{"id":2,"error":"gone\u0007"}"#],
+        input: STATEMENT,
+        answers: "error: scan 1 version: gone\\u0007\n",
+        notes: &[
+            BEGAN,
+            "{\"access\":\"list\",\"asked\":0,\"at\":0,\"block\":1,\"columns\":[\"id\",\"name\"],\"conditions\":[],\"connection\":\"c\",\"limit\":null,\"mark\":\"fresh\",\"scan\":1,\"session\":1,\"table\":\"item\",\"version\":null}\n",
+        ],
+        status: Status::Failed,
+    },
+    Row {
+        script: &[DECLARATION],
+        input: "select * from c.thing\n",
+        answers: "error: unknown table at 16\n",
+        notes: &[BEGAN],
+        status: Status::Failed,
+    },
+    Row {
+        script: &[],
+        input: "select * from x.item\n",
+        answers: "error: unknown connection at 14\n",
+        notes: &[BEGAN],
+        status: Status::Failed,
+    },
+    Row {
+        script: &[],
+        input: "SELECT * from c.item\n",
+        answers: "error: not yet\n",
+        notes: &[BEGAN],
+        status: Status::Failed,
+    },
+    Row {
+        script: &[br#"{"id":1,"declaration":{"tables":[],"ignore":[]}}"#],
+        input: STATEMENT,
+        answers: "error: not yet\n",
+        notes: &[BEGAN],
+        status: Status::Failed,
+    },
+    Row {
+        script: &[],
+        input: STATEMENT,
+        answers: SPENT,
+        notes: &[BEGAN],
+        status: Status::Failed,
+    },
+    Row {
+        script: &[DECLARATION, VERSION, ANT],
+        input: STATEMENT,
+        answers: SPENT,
+        notes: &[BEGAN, SCAN],
+        status: Status::Failed,
+    },
+    Row {
+        script: &[b"no line"],
+        input: STATEMENT,
+        answers: SPENT,
+        notes: &[BEGAN],
+        status: Status::Failed,
+    },
+    Row {
+        script: &[DECLARATION, br#"{"id":9,"version":7}"#],
+        input: STATEMENT,
+        answers: SPENT,
+        notes: &[BEGAN],
+        status: Status::Failed,
+    },
+    Row {
+        script: &[DECLARATION, br#"{"id":2,"item":{}}"#],
+        input: STATEMENT,
+        answers: SPENT,
+        notes: &[BEGAN],
+        status: Status::Failed,
+    },
+    Row {
+        script: &[br#"{"id":1,"error":"no"}"#],
+        input: STATEMENT,
+        answers: SPENT,
+        notes: &[BEGAN],
+        status: Status::Failed,
+    },
+];
+
+fn words(alloc: Global, words: &[&str]) -> Result<Texts, Memory> {
+    let mut texts = Items::new(alloc);
+    for word in words {
+        let Ok(()) = texts.push(Text::from_str(alloc, word)?) else {
+            return Err(Memory);
+        };
+    }
+    Ok(texts)
+}
+
+/// The sinks that a run writes to.
+#[derive(Drop)]
+struct Written {
+    answers: MemorySink,
+    notes: MemorySink,
+}
+
+fn sinks(alloc: Global) -> Written {
+    Written {
+        answers: MemorySink::new(alloc, 4096, Items::new(alloc)),
+        notes: MemorySink::new(alloc, 4096, Items::new(alloc)),
+    }
+}
+
+fn run(
+    alloc: Global,
+    words: &[Text],
+    input: &str,
+    written: &mut Written,
+    nursery: &mut ScriptedNursery,
+) -> Result<Status, Fail> {
+    let mut input = MemorySource::new(Vec::from_slice(alloc, input.as_bytes())?, Items::new(alloc));
+    let mut files = MemoryShelf::new(Items::new(alloc), Items::new(alloc));
+    let clock = MemoryClock::new(0, Items::new(alloc));
+    Ok(steampipe::<Untold, _, _, _, _, _, _>(
+        alloc,
+        words,
+        &mut input,
+        &mut files,
+        &mut written.answers,
+        &mut written.notes,
+        nursery,
+        &clock,
+    ))
+}
+
+#[test]
+fn a_line_is_answered_from_a_child(rt: HostRuntime) -> Result<(), Fail> {
+    let alloc = rt.alloc();
+    let words = words(alloc, &["steampipe", "query", "c", "child"])?;
+    for row in &ROWS {
+        let mut written = sinks(alloc);
+        let mut nursery = ScriptedNursery::new(alloc, row.script);
+        let status = run(
+            alloc,
+            words.as_slice(),
+            row.input,
+            &mut written,
+            &mut nursery,
+        )?;
+        assert_eq!(rt; status, row.status);
+        assert!(rt; written.answers.held() == row.answers.as_bytes());
+        let mut rest = written.notes.held();
+        for line in row.notes {
+            rest = rest.strip_prefix(line.as_bytes()).ok_or("another note")?;
+        }
+        assert!(rt; rest.is_empty());
+    }
+    Ok(())
+}
+
+#[test]
+fn a_child_hears_three_requests(rt: HostRuntime) -> Result<(), Fail> {
+    let alloc = rt.alloc();
+    let words = words(alloc, &["steampipe", "query", "c", "child"])?;
+    let mut written = sinks(alloc);
+    let mut nursery = ScriptedNursery::new(alloc, &[DECLARATION, VERSION, END]);
+    run(
+        alloc,
+        words.as_slice(),
+        STATEMENT,
+        &mut written,
+        &mut nursery,
+    )?;
+    let heard = &nursery.back[0].heard;
+    assert_eq!(rt; heard.len(), 3);
+    assert!(rt; heard[0].as_slice() == br#"{"connection":"c","id":1,"op":"declare"}"#.as_slice());
+    assert!(rt;
+        heard[1].as_slice() == br#"{"connection":"c","id":2,"op":"version","tick":0}"#.as_slice()
+    );
+    assert!(rt;
+        heard[2].as_slice()
+            == br#"{"attempt":1,"conditions":[],"connection":"c","function":"listItems","id":3,"op":"list","parent":null,"table":"item","version":7}"#.as_slice()
+    );
+    Ok(())
+}
+
+fn is_refused(alloc: Global, refused: &[&str]) -> Result<bool, Fail> {
+    let words = words(alloc, refused)?;
+    let mut written = sinks(alloc);
+    let mut nursery = ScriptedNursery::new(alloc, &[]);
+    let status = run(
+        alloc,
+        words.as_slice(),
+        STATEMENT,
+        &mut written,
+        &mut nursery,
+    )?;
+    let usage = b"usage: steampipe query CONNECTION COMMAND ...\n".as_slice();
+    Ok(
+        status == Status::Usage
+            && written.answers.held().is_empty()
+            && written.notes.held() == usage,
+    )
+}
+
+#[test]
+fn other_words_are_refused_with_the_usage(rt: HostRuntime) -> Result<(), Fail> {
+    let alloc = rt.alloc();
+    assert!(rt; is_refused(alloc, &["steampipe", "query"])?);
+    assert!(rt; is_refused(alloc, &["steampipe", "query", "c"])?);
+    assert!(rt; is_refused(alloc, &["steampipe", "query", "C", "child"])?);
+    assert!(rt; is_refused(alloc, &["steampipe", "load", "c", "child"])?);
+    Ok(())
+}
