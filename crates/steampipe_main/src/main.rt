@@ -14,12 +14,50 @@ use crate::folder::FolderShelf;
 use crate::machine_clock::MachineClock;
 use crate::programs::Programs;
 use crate::streams::{ReaderSource, WriterSink};
+use sp_value::{Memory, Text, Texts};
+use sp_world::Untold;
+use sqlite_items::Items;
+use std::env;
+use std::io::ErrorKind;
+use std::process::ExitCode;
+use steampipe_top::{Status, steampipe};
 
-fn main(rt: HostRuntime) {
-    let _input = ReaderSource::new(rt.stdin());
-    let _files = FolderShelf::new(rt);
-    let _answers = WriterSink::new(rt.stdout());
-    let _notes = WriterSink::new(rt.stderr());
-    let _nursery = Programs::new(rt, rt.alloc());
-    let _clock = MachineClock::new(rt);
+/// The words of the command line, none where one of them is no UTF-8.
+fn command_line(rt: &HostRuntime) -> Result<Texts, Memory> {
+    let mut words = Items::new(rt.alloc());
+    let args = match env::args(rt) {
+        Ok(args) => args,
+        Err(error) if error.kind() == ErrorKind::OutOfMemory => return Err(Memory),
+        Err(_) => return Ok(words),
+    };
+    for arg in args {
+        let Ok(()) = words.push(Text::from_string(arg)) else {
+            return Err(Memory);
+        };
+    }
+    Ok(words)
+}
+
+fn main(rt: HostRuntime) -> ExitCode {
+    let alloc = rt.alloc();
+    let Ok(words) = command_line(&rt) else {
+        return ExitCode::from(Status::Memory.number());
+    };
+    let mut input = ReaderSource::new(rt.stdin());
+    let mut files = FolderShelf::new(rt);
+    let mut answers = WriterSink::new(rt.stdout());
+    let mut notes = WriterSink::new(rt.stderr());
+    let mut nursery = Programs::new(rt, alloc);
+    let clock = MachineClock::new(rt);
+    let status = steampipe::<Untold, _, _, _, _, _, _>(
+        alloc,
+        words.as_slice(),
+        &mut input,
+        &mut files,
+        &mut answers,
+        &mut notes,
+        &mut nursery,
+        &clock,
+    );
+    ExitCode::from(status.number())
 }
