@@ -1,4 +1,4 @@
-ghost use Rattle.std.specs.Prelude.{◌≡◌, ◌≤◌, [], IfOk};
+ghost use Rattle.std.specs.Prelude.{◌≡◌, ◌≤◌, [], IfOk, vec_len, vec_capacity};
 
 use sp_model::Connection;
 use sp_outside::{Child, ChildEnd, Failed, Nursery};
@@ -11,6 +11,7 @@ use std::alloc::Global;
 pub(crate) struct ScriptedChild {
     alloc: Global,
     script: &'static [&'static [u8]],
+    next: usize,
     pub(crate) heard: Vec<Vec<u8>>,
     last: Vec<u8>,
     runs: bool,
@@ -19,12 +20,12 @@ pub(crate) struct ScriptedChild {
     given: u64,
 }
 
-fn copy(alloc: Global, line: &[u8]) -> Result<Vec<u8>, ChildEnd>
+fn copy(alloc: Global, line: &[u8]) -> Result<Vec<u8>, Memory>
     ensures { IfOk result (λ v. v.items ≡ line.now) }
 {
     match Vec::from_slice(alloc, line) {
         Ok(copy) => Ok(copy),
-        Err(_) => Err(ChildEnd::Memory),
+        Err(_) => Err(Memory),
     }
 }
 
@@ -63,12 +64,16 @@ impl Child<Untold> for ScriptedChild {
 
     fn receive(&mut self, alloc: Global) -> Result<Vec<u8>, ChildEnd> {
         if self.runs {
-            if let Some((line, rest)) = self.script.split_first() {
-                let given = copy(alloc, line)?;
-                self.last = copy(alloc, line)?;
-                self.script = rest;
-                self.given = self.given.saturating_add(1);
-                return Ok(given);
+            if let Some(line) = self.script.get(self.next) {
+                if line.len() <= 1_048_576 {
+                    let (Ok(given), Ok(last)) = (copy(alloc, line), copy(alloc, line)) else {
+                        return Err(ChildEnd::Memory);
+                    };
+                    self.last = last;
+                    self.next = self.next.saturating_add(1);
+                    self.given = self.given.saturating_add(1);
+                    return Ok(given);
+                }
             }
         }
         self.faults = self.faults.saturating_add(1);
@@ -94,6 +99,7 @@ pub(crate) struct ScriptedNursery {
     script: &'static [&'static [u8]],
     made: usize,
     pub(crate) back: Vec<ScriptedChild>,
+    ghost counted: { vec_len back ≤ made },
     ghost room: { made ≤ vec_capacity back },
 }
 
@@ -128,6 +134,7 @@ impl Nursery<Untold> for ScriptedNursery {
         Ok(ScriptedChild {
             alloc,
             script: self.script,
+            next: 0,
             heard: Vec::new(alloc),
             last: Vec::new(alloc),
             runs: false,

@@ -201,26 +201,35 @@ fn sinks(alloc: Global) -> Written {
     }
 }
 
+/// The status of a run, and the children that came back.
+#[derive(Drop)]
+struct Ran {
+    status: Status,
+    nursery: ScriptedNursery,
+}
+
 fn run(
     alloc: Global,
     words: &[Text],
     input: &str,
     written: &mut Written,
-    nursery: &mut ScriptedNursery,
-) -> Result<Status, Fail> {
+    script: &'static [&'static [u8]],
+) -> Result<Ran, Fail> {
     let mut input = MemorySource::new(Vec::from_slice(alloc, input.as_bytes())?, Items::new(alloc));
     let mut files = MemoryShelf::new(Items::new(alloc), Items::new(alloc));
     let clock = MemoryClock::new(0, Items::new(alloc));
-    Ok(steampipe::<Untold, _, _, _, _, _, _>(
+    let mut nursery = ScriptedNursery::new(alloc, script);
+    let status = steampipe::<Untold, _, _, _, _, _, _>(
         alloc,
         words,
         &mut input,
         &mut files,
         &mut written.answers,
         &mut written.notes,
-        nursery,
+        &mut nursery,
         &clock,
-    ))
+    );
+    Ok(Ran { status, nursery })
 }
 
 #[test]
@@ -229,15 +238,8 @@ fn a_line_is_answered_from_a_child(rt: HostRuntime) -> Result<(), Fail> {
     let words = words(alloc, &["steampipe", "query", "c", "child"])?;
     for row in &ROWS {
         let mut written = sinks(alloc);
-        let mut nursery = ScriptedNursery::new(alloc, row.script);
-        let status = run(
-            alloc,
-            words.as_slice(),
-            row.input,
-            &mut written,
-            &mut nursery,
-        )?;
-        assert_eq!(rt; status, row.status);
+        let ran = run(alloc, words.as_slice(), row.input, &mut written, row.script)?;
+        assert_eq!(rt; ran.status, row.status);
         assert!(rt; written.answers.held() == row.answers.as_bytes());
         let mut rest = written.notes.held();
         for line in row.notes {
@@ -253,22 +255,23 @@ fn a_child_hears_three_requests(rt: HostRuntime) -> Result<(), Fail> {
     let alloc = rt.alloc();
     let words = words(alloc, &["steampipe", "query", "c", "child"])?;
     let mut written = sinks(alloc);
-    let mut nursery = ScriptedNursery::new(alloc, &[DECLARATION, VERSION, END]);
-    run(
+    let ran = run(
         alloc,
         words.as_slice(),
         STATEMENT,
         &mut written,
-        &mut nursery,
+        &[DECLARATION, VERSION, END],
     )?;
-    let heard = &nursery.back[0].heard;
-    assert_eq!(rt; heard.len(), 3);
-    assert!(rt; heard[0].as_slice() == br#"{"connection":"c","id":1,"op":"declare"}"#.as_slice());
+    let child = ran.nursery.back.first().ok_or("a child that came back")?;
+    let [declare, version, list] = child.heard.as_slice() else {
+        return Err("three requests".into());
+    };
+    assert!(rt; declare.as_slice() == br#"{"connection":"c","id":1,"op":"declare"}"#.as_slice());
     assert!(rt;
-        heard[1].as_slice() == br#"{"connection":"c","id":2,"op":"version","tick":0}"#.as_slice()
+        version.as_slice() == br#"{"connection":"c","id":2,"op":"version","tick":0}"#.as_slice()
     );
     assert!(rt;
-        heard[2].as_slice()
+        list.as_slice()
             == br#"{"attempt":1,"conditions":[],"connection":"c","function":"listItems","id":3,"op":"list","parent":null,"table":"item","version":7}"#.as_slice()
     );
     Ok(())
@@ -277,17 +280,10 @@ fn a_child_hears_three_requests(rt: HostRuntime) -> Result<(), Fail> {
 fn is_refused(alloc: Global, refused: &[&str]) -> Result<bool, Fail> {
     let words = words(alloc, refused)?;
     let mut written = sinks(alloc);
-    let mut nursery = ScriptedNursery::new(alloc, &[]);
-    let status = run(
-        alloc,
-        words.as_slice(),
-        STATEMENT,
-        &mut written,
-        &mut nursery,
-    )?;
+    let ran = run(alloc, words.as_slice(), STATEMENT, &mut written, &[])?;
     let usage = b"usage: steampipe query CONNECTION COMMAND ...\n".as_slice();
     Ok(
-        status == Status::Usage
+        ran.status == Status::Usage
             && written.answers.held().is_empty()
             && written.notes.held() == usage,
     )
