@@ -1,9 +1,10 @@
-ghost use Rattle.std.specs.Prelude.{◌≡◌, [], ◌∷◌, ◌++◌, length, take, OnOk, OnErr};
+ghost use Rattle.std.specs.Prelude.{◌≡◌, [], ◌∷◌, ◌++◌, length, take, OnOk, OnErr, IfOk};
 ghost use Rattle.std.specs.Fn.{CalledAt};
 ghost use Rattle.std.specs.List.Retain.{IsFiltered};
 ghost use Rattle.std.specs.List.Sorted.{IsSortedByClosure, IsStableByClosure};
 
-use sp_value::Cells;
+use sp_value::{Cells, Memory};
+use sqlite_items::Items;
 use std::alloc::{AllocError, Global};
 use std::cmp::Ordering;
 use std::marker::Model;
@@ -34,6 +35,28 @@ impl Rows {
         Rows {
             rows: Vec::new(alloc),
         }
+    }
+
+    /// The rows of a list, each moved, unless memory is wanting.
+    pub fn from_items(alloc: Global, mut items: Items<Cells>) -> Result<Rows, Memory>
+        ensures { IfOk result (λ rows. rows ≡ items) }
+    {
+        let mut rows = Vec::new(alloc);
+        while let Some(row) = items.pop() {
+            let Ok(()) = rows.push(row) else {
+                return Err(Memory);
+            };
+        }
+        rows.reverse();
+        Ok(Rows { rows })
+    }
+
+    /// The rows as a list. It takes no memory.
+    pub fn into_items(self) -> Items<Cells>
+        ensures { result ≡ self }
+    {
+        let Rows { rows } = self;
+        Items::from_vec(rows)
     }
 
     /// Puts a row at the end.
