@@ -1,5 +1,5 @@
 use crate::{OrderKey, RowAsked, RowOperand, RowTest, Rows, keep, limit_rows, order_rows, project};
-use sp_value::{Cell, Cells, Memory, Op, Text};
+use sp_value::{Cell, Cells, Op, Text};
 use sqlite_items::{Boxed, Items};
 use std::alloc::Global;
 use std::test::Fail;
