@@ -1,0 +1,3 @@
+pub mod TruthLaws
+pub mod Sorting
+pub mod RowOrders

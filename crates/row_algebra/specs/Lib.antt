@@ -1,0 +1,2 @@
+pub mod RowTruth
+pub mod RowOrder

@@ -1,0 +1,52 @@
+// The first rows, and the columns that are shown.
+
+ghost use Rattle.std.specs.Prelude.{◌≡◌, map, take, IfOk};
+ghost use Rattle.row_algebra.specs.RowTruth.{cell_at};
+
+use crate::judging::cell_at;
+use crate::rows::Rows;
+use sp_value::{Cell, Cells, Memory, TryCopy};
+use std::alloc::Global;
+
+/// Drops the rows after the first `count`. It takes no memory.
+pub fn limit_rows(rows: &mut Rows, count: u64)
+    ensures { rows.new ≡ take count rows.old }
+{
+    rows.truncate(count as usize);
+}
+
+fn shown_cell(alloc: Global, row: &[Cell], column: u32) -> Result<Cell, Memory>
+    ensures { IfOk result (λ cell. cell ≡ cell_at row.now column) }
+{
+    let null = Cell::Null;
+    let cell = cell_at(row, column, &null).copy(alloc)?;
+    Ok(cell)
+}
+
+/// The cells of a row in these columns.
+fn shown_cells(alloc: Global, row: &[Cell], columns: &[u32]) -> Result<Cells, Memory>
+    ensures { IfOk result (λ cells. cells ≡ map (cell_at row.now) columns.now) }
+{
+    let mut cells = Cells::new(alloc);
+    for column in columns {
+        let cell = shown_cell(alloc, row, *column)?;
+        let Ok(()) = cells.push(cell) else {
+            return Err(Memory);
+        };
+    }
+    Ok(cells)
+}
+
+/// The rows with these columns alone, each cell a copy, unless memory is wanting.
+pub fn project(alloc: Global, rows: &Rows, columns: &[u32]) -> Result<Rows, Memory>
+    ensures { IfOk result (λ shown. shown ≡ map (λ row. map (cell_at row) columns.now) rows.now) }
+{
+    let mut shown = Rows::new(alloc);
+    for row in rows.as_slice() {
+        let cells = shown_cells(alloc, row.as_slice(), columns)?;
+        let Ok(()) = shown.push(cells) else {
+            return Err(Memory);
+        };
+    }
+    Ok(shown)
+}
