@@ -110,7 +110,7 @@ pub(crate) fn plain_rows(
 ) -> Result<ScanValue, Memory>
     ensures { IfOk result (λ v. v ≡ plain_rows columns.now function.now 0 items.now ending.now) }
 {
-    let mut rows = Items::new(alloc);
+    let mut rows = Rows::new(alloc);
     let mut before: u64 = 0;
     for item in items {
         let number = before + 1;

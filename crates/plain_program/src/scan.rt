@@ -12,7 +12,7 @@ use sp_model::{
     Access, AccessDecl, Call, Cause, ColumnDecl, Condition, GetDecl, ListDecl, Row, Rule,
     ScanRequest, ScanValue, TableDecl, Version, Walk, WalkState,
 };
-use sp_value::{Cell, Cells, Memory, Text, Truth, TryCopy, compare};
+use sp_value::{Cell, Cells, Memory, Rows, Text, Truth, TryCopy, compare};
 use sp_world::World;
 use sqlite_items::Items;
 use std::alloc::Global;
@@ -284,7 +284,7 @@ fn start(alloc: Global) -> WalkState
     ensures { result ≡ start }
 {
     WalkState {
-        rows: Items::new(alloc),
+        rows: Rows::new(alloc),
         items: 0,
         steady: true,
     }

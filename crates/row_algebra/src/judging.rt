@@ -5,8 +5,7 @@ ghost use Rattle.row_algebra.specs.RowTruth.{cell_at, value_of, opposite, opposi
 ghost use Rattle.sp_value.specs.Truth.{truth};
 
 use crate::condition::{RowAsked, RowOperand, RowTest};
-use crate::rows::Rows;
-use sp_value::{Cell, Op, Truth, compare};
+use sp_value::{Cell, Op, Rows, Truth, compare};
 
 /// The value in a column, counted from 0, or what is given for null past the row's end.
 pub(crate) fn cell_at<'a>(row: &'a [Cell], column: u32, null: &'a Cell) -> &'a Cell

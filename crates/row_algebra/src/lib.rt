@@ -5,7 +5,6 @@
 mod condition;
 mod judging;
 mod ordering;
-mod rows;
 mod showing;
 #[cfg(test)]
 mod tests;
@@ -13,5 +12,4 @@ mod tests;
 pub use condition::{RowAsked, RowOperand, RowTest};
 pub use judging::{keep, truth_of};
 pub use ordering::{OrderKey, order_rows};
-pub use rows::Rows;
 pub use showing::{limit_rows, project};

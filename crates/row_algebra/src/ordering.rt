@@ -5,8 +5,7 @@ ghost use Rattle.std.specs.List.Sorted.{IsSortedBy, IsStableBy};
 ghost use Rattle.row_algebra.specs.RowOrder.{cell_rank, cell_order, key_order, row_order, comes_before, ordered};
 
 use crate::judging::cell_at;
-use crate::rows::Rows;
-use sp_value::{Cell, Memory};
+use sp_value::{Cell, Memory, Rows};
 use std::cmp::Ordering;
 
 /// A key of the order: a column, counted from 0, ascending or descending.

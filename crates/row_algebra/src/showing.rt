@@ -4,8 +4,7 @@ ghost use Rattle.std.specs.Prelude.{◌≡◌, map, take, IfOk};
 ghost use Rattle.row_algebra.specs.RowTruth.{cell_at};
 
 use crate::judging::cell_at;
-use crate::rows::Rows;
-use sp_value::{Cell, Cells, Memory, TryCopy};
+use sp_value::{Cell, Cells, Memory, Rows, TryCopy};
 use std::alloc::Global;
 
 /// Drops the rows after the first `count`. It takes no memory.

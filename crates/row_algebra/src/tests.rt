@@ -1,5 +1,5 @@
-use crate::{OrderKey, RowAsked, RowOperand, RowTest, Rows, keep, limit_rows, order_rows, project};
-use sp_value::{Cell, Cells, Op, Text};
+use crate::{OrderKey, RowAsked, RowOperand, RowTest, keep, limit_rows, order_rows, project};
+use sp_value::{Cell, Cells, Op, Rows, Text};
 use sqlite_items::{Boxed, Items};
 use std::alloc::Global;
 use std::test::Fail;
@@ -11,7 +11,7 @@ fn text(alloc: Global, text: &str) -> Result<Cell, Fail> {
 
 /// Rows of a number and a text; no text stands for null.
 fn animals(alloc: Global, names: &[&str]) -> Result<Rows, Fail> {
-    let mut rows = Items::new(alloc);
+    let mut rows = Rows::new(alloc);
     let mut id = 0i64;
     for name in names {
         if id < 1000 {
@@ -27,7 +27,6 @@ fn animals(alloc: Global, names: &[&str]) -> Result<Rows, Fail> {
         cells.push(name)?;
         rows.push(cells)?;
     }
-    let rows = Rows::from_items(alloc, rows).ok().ok_or("out of memory")?;
     Ok(rows)
 }
 
@@ -227,6 +226,5 @@ fn rows_are_cut_and_columns_are_shown(rt: HostRuntime) -> Result<(), Fail> {
         shown(alloc, &columns)?.as_str(),
         "| ant 1 ant null| null 2 null null"
     );
-    assert_eq!(rt; columns.into_items().len(), 2);
     Ok(())
 }

@@ -187,9 +187,6 @@ fn answer<W: World>(alloc: Global, line: &[u8]) -> Result<Option<Answering>, Mem
         asked,
         function: _function,
     } = request;
-    if id > i64::MAX as u64 {
-        return Err(Memory);
-    }
     let reply = reply_to::<W>(alloc, &asked)?;
     let call = OpenCall {
         id,

@@ -3,6 +3,7 @@ ghost use Rattle.std.specs.Prelude.{◌≡◌, IfOk};
 use crate::cell::{Cell, copy_cell, copy_members};
 use crate::kind::Kind;
 use crate::members::Members;
+use crate::rows::Rows;
 use crate::text::{Memory, Text};
 use crate::truth::Op;
 use sqlite_items::Items;
@@ -45,6 +46,18 @@ impl TryCopy for Op {
 impl TryCopy for Kind {
     fn copy(&self, _alloc: Global) -> Result<Kind, Memory> {
         Ok(*self)
+    }
+}
+
+impl TryCopy for Rows {
+    fn copy(&self, alloc: Global) -> Result<Rows, Memory> {
+        let mut copies = Rows::new(alloc);
+        for row in self.as_slice() {
+            let Ok(()) = copies.push(row.copy(alloc)?) else {
+                return Err(Memory);
+            };
+        }
+        Ok(copies)
     }
 }
 

@@ -8,6 +8,7 @@ mod kind;
 mod lists;
 mod members;
 mod pattern;
+mod rows;
 #[cfg(test)]
 mod tests;
 mod text;
@@ -19,8 +20,9 @@ pub use json::{
     CellFault, from_json, has_odd_number, members_from_json, members_to_json, nests, to_json,
 };
 pub use kind::Kind;
-pub use lists::{Cells, Kinds, Rows, Texts, copy_texts};
+pub use lists::{Cells, Kinds, Texts, copy_texts};
 pub use members::Members;
 pub use pattern::{Pattern, fits_some};
+pub use rows::Rows;
 pub use text::{Memory, Text};
 pub use truth::{Op, Truth, compare};

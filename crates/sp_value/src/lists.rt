@@ -12,9 +12,6 @@ pub type Cells = Items<Cell>;
 /// A list of texts, seen by contracts as a list of lists of bytes.
 pub type Texts = Items<Text>;
 
-/// Rows of values, seen by contracts as a list of lists.
-pub type Rows = Items<Cells>;
-
 /// A list of kinds, seen by contracts as a list.
 pub type Kinds = Items<Kind>;
 

@@ -69,7 +69,8 @@ pub fn item_from(alloc: Global, value: &Value) -> Result<Option<Cell>, Memory>
     }
 }
 
-pub(crate) fn made(value: Result<Value, AllocError>) -> Result<Value, Memory>
+/// The value, unless it wanted memory.
+pub fn made(value: Result<Value, AllocError>) -> Result<Value, Memory>
     ensures { IfOk result (λ v. value ≡ Ok v) }
 {
     match value {

@@ -27,7 +27,8 @@ fn function_json(alloc: Global, function: &Option<Text>) -> Result<Value, Memory
     }
 }
 
-fn text_json(alloc: Global, text: &str) -> Result<Value, Memory>
+/// A text as a JSON string.
+pub fn text_json(alloc: Global, text: &str) -> Result<Value, Memory>
     ensures { IfOk result (λ v. view v ≡ string text.now) }
 {
     match String::from_str(alloc, text) {

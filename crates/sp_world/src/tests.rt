@@ -1,6 +1,6 @@
 use crate::{Kept, Told, Untold};
 use sp_model::{Access, Asked, Mark, ScanNote, ScanRequest, Version};
-use sp_value::Text;
+use sp_value::{Rows, Text};
 use sqlite_items::Items;
 use std::alloc::Global;
 use std::test::Fail;
@@ -40,9 +40,9 @@ fn a_kept_scan_lends_its_note_and_rows(rt: HostRuntime) -> Result<(), Fail> {
         version: Version::Is(7),
         mark: Mark::Fresh,
     };
-    let kept: Kept<Untold> = Kept::of(note, Items::new(rt.alloc()), true);
+    let kept: Kept<Untold> = Kept::of(note, Rows::new(rt.alloc()), true);
     assert_eq!(rt; kept.note().asked, 3);
-    assert!(rt; kept.rows().is_empty());
+    assert!(rt; kept.rows().as_slice().is_empty());
     assert!(rt; kept.complete());
     Ok(())
 }

@@ -2,6 +2,7 @@
 use Rattle.std.specs.Prelude.{◌≡◌, ◌⊎◌, ℕ, ◌≤◌, List, [], ◌∷◌, ◌++◌, length, codes, Bool, IsTrue, Option, Some}
 use Rattle.std.specs.Io.KnownBytes.{Appends}
 use Rattle.sp_model.specs.Book.{Book}
+use Rattle.sp_outside.specs.Causes.{Rose}
 use Rattle.sp_outside.specs.Reading.{ReadsWhole}
 use Rattle.sp_outside.specs.Writing.{GrewByPrefix}
 use Rattle.sp_outside.specs.declared.log.Loss.{Loss}
@@ -54,6 +55,10 @@ IfRefused ReadFault P = P (codes "error: read fault\n")
 IfRefused InputLimit P = P (codes "error: input limit\n")
 IfRefused _ P = Unit {0}
 
+-- a line was written whole; or a beginning of it, to a sink whose count of faults rose
+abbrev pub IsNoted : ℕ → ℕ → Option (List ℕ) → Option (List ℕ) → List ℕ → Type 0
+IsNoted faults faults_after held held_after line = Appends held held_after line ⊎ (GrewByPrefix held held_after line × Rose faults faults_after)
+
 -- writing stopped: in the answers, before any note; or in the notes
 abbrev pub IsStopped : List Answer → Option (List ℕ) → Option (List ℕ) → Option (List ℕ) → Option (List ℕ) → Type 0
 IsStopped answers held held_after notes notes_after =
@@ -81,10 +86,11 @@ status_number InputLimit = 6
 status_number WriteFault = 7
 status_number Memory = 8
 
--- the refusals that the input alone decides come exactly there
+-- no answer to an empty input, else one, whose refusals that the input alone decides come exactly there
 abbrev pub AreByText : List ℕ → List ℕ → List Answer → Type 0
-AreByText name input [] = Unit {0}
-AreByText name input (answer ∷ answers) = IsByText name answer (first_line input) × AreByText name input answers
+AreByText name [] answers = answers ≡ []
+AreByText name (b ∷ bs) (answer ∷ []) = IsByText name answer (first_line (b ∷ bs))
+AreByText name (b ∷ bs) _ = ⊥
 
 -- a child came back, the last, and its loss has its cause: a fault where the children tell and are honest
 pub record HasLost {Kid : Type 0} (faulted gives : Kid → ℕ) (last : Kid → List ℕ) (IsToldHonestly : Type 0) (back back_after : List Kid) (loss : Loss) : Type 0 where

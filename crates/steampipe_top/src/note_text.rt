@@ -1,6 +1,5 @@
-ghost use Rattle.std.specs.Prelude.{◌≡◌, Ok, IfOk, false};
+ghost use Rattle.std.specs.Prelude.{◌≡◌, IfOk, false};
 ghost use Rattle.serde_json.specs.View.{view};
-ghost use Rattle.serde_json.specs.Data.{string};
 ghost use Rattle.serde_json.specs.Written.{has_float};
 ghost use Rattle.steampipe_top.specs.Notes.{natural, access_word, mark_word, version_data, limit_data, texts_data, note_members, note_data, began_data, json_line, began_line, note_line, block_notes};
 
@@ -8,7 +7,7 @@ use first_path::Answer;
 use serde_json::{Value, json};
 use sp_model::{Access, Mark, ScanNote, Version};
 use sp_value::{Memory, Text};
-use sp_world::{conditions_json, spell};
+use sp_world::{conditions_json, made, spell, text_json};
 use std::alloc::{AllocError, Global};
 
 /// Where a note stands: the block and its session, counted from 1, and the number of the scan in the statement, from 1.
@@ -64,36 +63,18 @@ fn limit_json(alloc: Global, limit: Option<u64>) -> Result<Value, AllocError>
     }
 }
 
-fn text_json(alloc: Global, text: &Text) -> Result<Value, Memory>
-    ensures { IfOk result (λ v. view v ≡ string text.now) }
-{
-    match String::from_str(alloc, text.as_str()) {
-        Ok(text) => Ok(Value::String(text)),
-        Err(_) => Err(Memory),
-    }
-}
-
 fn texts_json(alloc: Global, texts: &[Text]) -> Result<Value, Memory>
     ensures value { IfOk result (λ v. view v ≡ texts_data texts.now) }
     ensures no_float { IfOk result (λ v. has_float (view v) ≡ false) }
 {
     let mut values = Vec::new(alloc);
     for text in texts {
-        let value = text_json(alloc, text)?;
+        let value = text_json(alloc, text.as_str())?;
         let Ok(()) = values.push(value) else {
             return Err(Memory);
         };
     }
     Ok(Value::Array(values))
-}
-
-fn made(value: Result<Value, AllocError>) -> Result<Value, Memory>
-    ensures { IfOk result (λ v. value ≡ Ok v) }
-{
-    match value {
-        Ok(value) => Ok(value),
-        Err(_) => Err(Memory),
-    }
 }
 
 fn note_members(

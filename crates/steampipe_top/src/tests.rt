@@ -208,14 +208,21 @@ struct Ran {
     nursery: ScriptedNursery,
 }
 
+fn source(alloc: Global, input: &str) -> Result<MemorySource, Memory> {
+    match Vec::from_slice(alloc, input.as_bytes()) {
+        Ok(bytes) => Ok(MemorySource::new(bytes, Items::new(alloc))),
+        Err(_) => Err(Memory),
+    }
+}
+
 fn run(
     alloc: Global,
     words: &[Text],
-    input: &str,
+    input: MemorySource,
     written: &mut Written,
     script: &'static [&'static [u8]],
-) -> Result<Ran, Fail> {
-    let mut input = MemorySource::new(Vec::from_slice(alloc, input.as_bytes())?, Items::new(alloc));
+) -> Ran {
+    let mut input = input;
     let mut files = MemoryShelf::new(Items::new(alloc), Items::new(alloc));
     let clock = MemoryClock::new(0, Items::new(alloc));
     let mut nursery = ScriptedNursery::new(alloc, script);
@@ -229,7 +236,7 @@ fn run(
         &mut nursery,
         &clock,
     );
-    Ok(Ran { status, nursery })
+    Ran { status, nursery }
 }
 
 #[test]
@@ -238,7 +245,13 @@ fn a_line_is_answered_from_a_child(rt: HostRuntime) -> Result<(), Fail> {
     let words = words(alloc, &["steampipe", "query", "c", "child"])?;
     for row in &ROWS {
         let mut written = sinks(alloc);
-        let ran = run(alloc, words.as_slice(), row.input, &mut written, row.script)?;
+        let ran = run(
+            alloc,
+            words.as_slice(),
+            source(alloc, row.input)?,
+            &mut written,
+            row.script,
+        );
         assert_eq!(rt; ran.status, row.status);
         assert!(rt; written.answers.held() == row.answers.as_bytes());
         let mut rest = written.notes.held();
@@ -258,10 +271,10 @@ fn a_child_hears_three_requests(rt: HostRuntime) -> Result<(), Fail> {
     let ran = run(
         alloc,
         words.as_slice(),
-        STATEMENT,
+        source(alloc, STATEMENT)?,
         &mut written,
         &[DECLARATION, VERSION, END],
-    )?;
+    );
     let child = ran.nursery.back.first().ok_or("a child that came back")?;
     let [declare, version, list] = child.heard.as_slice() else {
         return Err("three requests".into());
@@ -280,7 +293,13 @@ fn a_child_hears_three_requests(rt: HostRuntime) -> Result<(), Fail> {
 fn is_refused(alloc: Global, refused: &[&str]) -> Result<bool, Fail> {
     let words = words(alloc, refused)?;
     let mut written = sinks(alloc);
-    let ran = run(alloc, words.as_slice(), STATEMENT, &mut written, &[])?;
+    let ran = run(
+        alloc,
+        words.as_slice(),
+        source(alloc, STATEMENT)?,
+        &mut written,
+        &[],
+    );
     let usage = b"usage: steampipe query CONNECTION COMMAND ...\n".as_slice();
     Ok(
         ran.status == Status::Usage
@@ -296,5 +315,56 @@ fn other_words_are_refused_with_the_usage(rt: HostRuntime) -> Result<(), Fail> {
     assert!(rt; is_refused(alloc, &["steampipe", "query", "c"])?);
     assert!(rt; is_refused(alloc, &["steampipe", "query", "C", "child"])?);
     assert!(rt; is_refused(alloc, &["steampipe", "load", "c", "child"])?);
+    Ok(())
+}
+
+/// Whether an input is refused with this status and this line in the notes.
+fn is_refused_by(
+    alloc: Global,
+    input: MemorySource,
+    status: Status,
+    line: &str,
+) -> Result<bool, Fail> {
+    let words = words(alloc, &["steampipe", "query", "c", "child"])?;
+    let mut written = sinks(alloc);
+    let ran = run(alloc, words.as_slice(), input, &mut written, &[]);
+    Ok(
+        ran.status == status
+            && written.answers.held().is_empty()
+            && written.notes.held() == line.as_bytes(),
+    )
+}
+
+#[test]
+fn an_input_that_fails_or_is_too_long_is_refused(rt: HostRuntime) -> Result<(), Fail> {
+    let alloc = rt.alloc();
+    let failing = MemorySource::new(
+        Vec::from_slice(alloc, b"select")?,
+        Items::from_slice(alloc, &[0])?,
+    );
+    assert!(rt; is_refused_by(alloc, failing, Status::ReadFault, "error: read fault\n")?);
+    let long = MemorySource::new(vec![in alloc; b' '; 1_048_577]?, Items::new(alloc));
+    assert!(rt; is_refused_by(alloc, long, Status::InputLimit, "error: input limit\n")?);
+    Ok(())
+}
+
+#[test]
+fn a_sink_that_fails_holds_a_beginning_and_nothing_is_noted(rt: HostRuntime) -> Result<(), Fail> {
+    let alloc = rt.alloc();
+    let words = words(alloc, &["steampipe", "query", "c", "child"])?;
+    let mut written = Written {
+        answers: MemorySink::new(alloc, 4, Items::from_slice(alloc, &[1])?),
+        notes: MemorySink::new(alloc, 4096, Items::new(alloc)),
+    };
+    let ran = run(
+        alloc,
+        words.as_slice(),
+        source(alloc, STATEMENT)?,
+        &mut written,
+        &[DECLARATION, VERSION, ANT, END],
+    );
+    assert_eq!(rt; ran.status, Status::WriteFault);
+    assert!(rt; written.answers.held() == b"id,n".as_slice());
+    assert!(rt; written.notes.held().is_empty());
     Ok(())
 }

@@ -1,9 +1,8 @@
 ghost use Rattle.std.specs.Prelude.{◌≡◌, ◌≢◌, ◌⊎◌, ◌∷◌, [], length, MatchOption};
 ghost use Rattle.sp_outside.specs.Causes.{Rose};
 ghost use Rattle.sp_outside.specs.Reading.{IsLonger};
-ghost use Rattle.sp_outside.specs.Writing.{GrewByPrefix};
 ghost use Rattle.first_path.specs.Words.{words_of};
-ghost use Rattle.steampipe_top.specs.Running.{end_status, HasAnswered, HasRun, IsWritten, IfAnswered, IfRefused};
+ghost use Rattle.steampipe_top.specs.Running.{end_status, HasAnswered, HasRun, IsNoted, IsWritten, IfAnswered, IfRefused};
 
 use crate::block_text::block_text;
 use crate::note_text::block_notes;
@@ -18,9 +17,10 @@ use std::alloc::Global;
 const INPUT_LIMIT: usize = 1_048_576;
 
 /// Writes one line to the notes, as far as they take it.
+#[tactic(auto, using(crate::proofs::Answered::noted))]
 fn refuse<N: Sink>(notes: &mut N, line: &[u8], status: Status) -> Status
     ensures status { result ≡ status }
-    ensures line { GrewByPrefix (N.held notes.old) (N.held notes.new) line.now }
+    ensures line { IsNoted (N.faulted notes.old) (N.faulted notes.new) (N.held notes.old) (N.held notes.new) line.now }
 {
     let _ = write_all(notes, line);
     status
@@ -103,7 +103,7 @@ pub fn steampipe<W: World, I: Source, F: Shelf, O: Sink, N: Sink, M: Nursery<W>,
     ensures read_fault { result ≡ Status.ReadFault → Rose (I.faulted input.old) (I.faulted input.new) }
     ensures input_limit { result ≡ Status.InputLimit → IsLonger (I.left input.old) 1048576 }
     ensures write_fault { result ≡ Status.WriteFault → Rose (O.faulted answers.old) (O.faulted answers.new) ⊎ Rose (N.faulted notes.old) (N.faulted notes.new) }
-    ensures refused { IfRefused result (λ line. (O.held answers.new ≡ O.held answers.old) × GrewByPrefix (N.held notes.old) (N.held notes.new) line) }
+    ensures refused { IfRefused result (λ line. (O.held answers.new ≡ O.held answers.old) × IsNoted (N.faulted notes.old) (N.faulted notes.new) (N.held notes.old) (N.held notes.new) line) }
     ensures back { length (M.back nursery.new) ≡ M.made nursery.new }
 {
     let Some(query) = read_words(words) else {

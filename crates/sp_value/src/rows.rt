@@ -1,10 +1,9 @@
-ghost use Rattle.std.specs.Prelude.{◌≡◌, [], ◌∷◌, ◌++◌, take, OnOk, OnErr, IfOk};
+ghost use Rattle.std.specs.Prelude.{◌≡◌, [], ◌∷◌, ◌++◌, take, length, OnOk, OnErr};
 ghost use Rattle.std.specs.Fn.{CalledAt};
 ghost use Rattle.std.specs.List.Retain.{IsFiltered};
 ghost use Rattle.std.specs.List.Sorted.{IsSortedByClosure, IsStableByClosure};
 
-use sp_value::{Cells, Memory};
-use sqlite_items::Items;
+use crate::lists::Cells;
 use std::alloc::{AllocError, Global};
 use std::cmp::Ordering;
 use std::marker::Model;
@@ -37,28 +36,6 @@ impl Rows {
         }
     }
 
-    /// The rows of a list, each moved, unless memory is wanting.
-    pub fn from_items(alloc: Global, mut items: Items<Cells>) -> Result<Rows, Memory>
-        ensures { IfOk result (λ rows. rows ≡ items) }
-    {
-        let mut rows = Vec::new(alloc);
-        while let Some(row) = items.pop() {
-            let Ok(()) = rows.push(row) else {
-                return Err(Memory);
-            };
-        }
-        rows.reverse();
-        Ok(Rows { rows })
-    }
-
-    /// The rows as a list. It takes no memory.
-    pub fn into_items(self) -> Items<Cells>
-        ensures { result ≡ self }
-    {
-        let Rows { rows } = self;
-        Items::from_vec(rows)
-    }
-
     /// Puts a row at the end.
     pub fn push(&mut self, row: Cells) -> Result<(), AllocError>
         ensures ok { OnOk result (self.new ≡ self.old ++ row ∷ []) }
@@ -73,6 +50,13 @@ impl Rows {
         ensures { result.now ≡ self.now }
     {
         self.rows.as_slice()
+    }
+
+    /// The number of rows.
+    pub fn len(&self) -> usize
+        ensures { result ≡ length self.now }
+    {
+        self.rows.len()
     }
 
     /// Keeps the rows at which `test` says true, in their order.
