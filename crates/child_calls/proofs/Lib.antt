@@ -1,0 +1,3 @@
+mod Honest
+mod Pieces
+mod Started
