@@ -4,6 +4,7 @@ ghost use Rattle.child_calls.specs.Stages.{stage_after, end_of};
 
 use crate::asking::AskEnd;
 use sp_outside::Loss;
+use sp_value::Memory;
 
 /// How far a child is: not started, ready for a call, or lost, which it stays.
 #[derive(Drop)]
@@ -46,5 +47,15 @@ impl Stage {
                 CallEnd::Memory
             }
         }
+    }
+}
+
+impl From<Memory> for CallEnd {
+    ghost use Rattle.child_calls.specs.declared.stage.CallEnd.TheVariants as end;
+
+    ghost from_gives = { λ _ e. e ≡ end.Memory };
+
+    fn from(_: Memory) -> CallEnd {
+        CallEnd::Memory
     }
 }

@@ -1,0 +1,3 @@
+pub mod Used
+pub mod Placed
+pub mod Plans
