@@ -1,0 +1,2 @@
+-- The lines of an input, one after another.
+use Rattle.std.proofs.Common.{◌≡◌}
