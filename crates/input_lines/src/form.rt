@@ -22,7 +22,7 @@ fn session_of(digits: &str) -> Option<u32>
         return None;
     }
     match digits.parse::<u32>() {
-        Ok(session) if (1..=64).contains(&session) => Some(session),
+        Ok(session @ 1..=64) => Some(session),
         _ => None,
     }
 }
