@@ -1,11 +1,9 @@
 -- The lines of an input, one after another.
-use Rattle.std.proofs.Common.{◌≡◌, ℕ, zero, suc, ◌+◌, ◌<◌, ◌≤◌, Bool, true, false, not, cond, List, [], ◌∷◌, ◌++◌, map, length, get_or, take, drop, refl, sym, ap, subst, ◌∙◌, nat_lt, arith, length-drop}
+use Rattle.std.proofs.Common.{◌≡◌, ℕ, ◌+◌, ◌<◌, ◌≤◌, true, false, not, List, [], ◌∷◌, map, length, refl, sym, ap, ◌∙◌, nat_lt, arith, length-drop}
 use Rattle.std.specs.List.{slice_split, filter, before_first, after_first, position_or_len}
 use Rattle.std.proofs.lemmas.List.{take_all, drop_all}
 use Rattle.std.proofs.lemmas.List.Sums.{fails_before_first}
 use Rattle.std.proofs.lemmas.List.Splits.{slice_split_first, slice_split_none, length-slice_split}
-use Rattle.std.proofs.lemmas.Grind.{common_steps}
-use Rattle.input_lines.specs.declared.line.Line.{Line}
 use Rattle.input_lines.specs.Lines.{is_feed, is_blank, without_return, without_empty_rest, lines_of, line_of, blocks_of}
 
 -- the first line of an input, which is not empty
@@ -24,7 +22,7 @@ with_feed : (input : List ℕ) → position_or_len is_feed input < length input 
 with_feed input h =
     let parts = slice_split is_feed (after_first is_feed input) in
     ap (λ l. map without_return (without_empty_rest l)) (slice_split_first is_feed input 0 h)
-        ∙ ap (map without_return) (kept (before_first is_feed input) parts (omega (arith, length-slice_split is_feed (after_first is_feed input))))
+    ∙ ap (map without_return) (kept (before_first is_feed input) parts (omega (arith, length-slice_split is_feed (after_first is_feed input))))
 
 no_feed : (input : List ℕ) → 0 < length input → length input ≤ position_or_len is_feed input → lines_of input ≡ first input ∷ lines_of (after_first is_feed input)
 no_feed input some h =
@@ -32,9 +30,9 @@ no_feed input some h =
     let all : before_first is_feed input ≡ input = take_all (position_or_len is_feed input) input h in
     let none : after_first is_feed input ≡ [] = drop_all (position_or_len is_feed input + 1) input (omega arith) in
     ap (λ l. map without_return (without_empty_rest l)) one
-        ∙ ap (map without_return) (lone input some)
-        ∙ ap (λ l. without_return l ∷ []) (sym all)
-        ∙ ap (λ l. first input ∷ lines_of l) (sym none)
+    ∙ ap (map without_return) (lone input some)
+    ∙ ap (λ l. without_return l ∷ []) (sym all)
+    ∙ ap (λ l. first input ∷ lines_of l) (sym none)
 
 pub lines_of-first : (input : List ℕ) → 0 < length input → lines_of input ≡ first input ∷ lines_of (after_first is_feed input)
 lines_of-first input some =

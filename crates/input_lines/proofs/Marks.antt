@@ -1,15 +1,14 @@
 -- What the methods of texts give of a mark, in the words of the definitions.
-use Rattle.std.proofs.Common.{◌≡◌, ◌≢◌, ℕ, zero, suc, ◌+◌, ◌<◌, ◌≤◌, ◌^◌, Bool, true, false, not, cond, ◌&&◌, ◌⊎◌, MatchBool, nat_eq, nat_le, List, [], ◌∷◌, ◌++◌, length, get_or, take, drop, Option, None, Some, Result, Ok, Err, codes, refl, sym, ap, subst, ◌∙◌, arith, rules}
+use Rattle.std.proofs.Common.{◌≡◌, ◌≢◌, ℕ, zero, suc, ◌<◌, ◌≤◌, ◌^◌, Bool, true, false, not, cond, ◌&&◌, ◌⊎◌, MatchBool, nat_eq, nat_le, List, [], ◌∷◌, ◌++◌, length, get_or, drop, Option, None, Some, Ok, Err, codes, refl, sym, ap, subst, ◌∙◌, arith}
 use Rattle.std.specs.Str.{IsUtf8, is_utf8, all_ascii_digits}
 use Rattle.std.specs.Str.Parse.{digits_value, ParsesUnsigned}
 use Rattle.std.specs.Str.Pattern.{FindsCharPrefix, HasPrefixMatch, CutsPrefixes, IsFullyTrimmed, IsTrimStartMatches}
-use Rattle.std.specs.List.{prefix_len}
 use Rattle.std.proofs.lemmas.Str.{IsUtf8-from_is_utf8, is_utf8-from_IsUtf8, encode_ascii}
 use Rattle.std.proofs.lemmas.Str.Parse.{IsNumeralModel, numerals_by_value, tells_all_ascii_digits, parse_plain}
 use Rattle.std.proofs.lemmas.Str.Pattern.{drop_at_char, starts_char}
 use Rattle.std.proofs.lemmas.Bool.{false≢true}
 use Rattle.std.proofs.lemmas.Grind.{common_steps}
-use Rattle.input_lines.specs.Lines.{is_space, session_of, begins_with, without_spaces, placed, marked, line_of}
+use Rattle.input_lines.specs.Lines.{session_of, begins_with, without_spaces, placed, marked, line_of}
 use Rattle.input_lines.specs.declared.line.Line.TheVariants.{BadForm}
 
 -- ---- a session's digits

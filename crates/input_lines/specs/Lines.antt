@@ -1,5 +1,5 @@
 -- The lines of an input, and what each of them is.
-use Rattle.std.specs.Prelude.{ℕ, ◌-◌, ◌<◌, ◌==◌, nat_eq, nat_le, Bool, ◌&&◌, ◌||◌, not, List, [], ◌∷◌, length, map, take, drop, codes, Option, Some, None, if◌then◌else◌}
+use Rattle.std.specs.Prelude.{ℕ, ◌-◌, ◌<◌, ◌≤◌, ◌==◌, nat_eq, nat_le, Bool, ◌&&◌, ◌||◌, not, List, [], ◌∷◌, length, map, take, drop, codes, Option, Some, None, if◌then◌else◌}
 use Rattle.std.specs.List.{slice_split, filter, list_all, starts_with, ends_with, before_first, after_first, prefix_len}
 use Rattle.std.specs.Str.{is_utf8, all_ascii_digits}
 use Rattle.std.specs.Str.Parse.{digits_value}
@@ -68,6 +68,14 @@ line_of line =
     if not (is_utf8 line) then BadForm
     else (if begins_with (codes "@") line then marked (drop 1 line)
     else placed 1 line)
+
+abbrev pub IsSession : ℕ → Type 0
+IsSession session = (1 ≤ session) × (session ≤ 64)
+
+abbrev pub HasSession : Line → Type 0
+HasSession (Statement session text) = IsSession session
+HasSession (ClearCache session) = IsSession session
+HasSession BadForm = Unit {0}
 
 -- ---- the input
 

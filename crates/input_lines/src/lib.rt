@@ -4,6 +4,8 @@
 mod form;
 mod line;
 mod reading;
+#[cfg(test)]
+mod tests;
 
 pub use line::{Line, LinesFault};
 pub use reading::read_lines;

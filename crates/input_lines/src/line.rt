@@ -10,9 +10,9 @@ use sp_value::{Memory, Text};
 pub enum Line {
     /// The text is all that stands in the statement's place, and is not yet read.
     Statement { session: u32, text: Text },
-    /// `.cache clear`.
+    /// `.cache clear`, with spaces and tabs alone behind it.
     ClearCache { session: u32 },
-    /// The line is not UTF-8, its mark names no session or has no statement, or it begins with `.` as no command does.
+    /// The line is not UTF-8, or its mark names no session or has no statement, or another text than the command begins with `.`.
     BadForm,
 }
 

@@ -1,8 +1,8 @@
 // The lines of an input.
 
-ghost use Rattle.std.specs.Prelude.{◌≡◌, IfOk, IfErr, position};
-ghost use Rattle.std.specs.List.{before_first, after_first};
-ghost use Rattle.input_lines.specs.Lines.{is_feed, without_return, blocks_of, HasTooManyLines, IsFaultOf};
+ghost use Rattle.std.specs.Prelude.{◌≡◌, ◌≤◌, IfOk, IfErr, length, position};
+ghost use Rattle.std.specs.List.{All, before_first, after_first};
+ghost use Rattle.input_lines.specs.Lines.{is_feed, without_return, blocks_of, HasSession, HasTooManyLines, IsFaultOf};
 
 use crate::form::{is_blank, line_of};
 use crate::line::{Line, LinesFault};
@@ -45,6 +45,9 @@ pub fn read_lines(alloc: Global, input: &[u8]) -> Result<Items<Line>, LinesFault
     ensures lines { IfOk result (λ lines. lines ≡ blocks_of input.now) }
     // An input of too many lines is refused.
     ensures within { IfOk result (λ lines. ¬ (HasTooManyLines input.now)) }
+    // Each session is from 1 to 64, and there are at most 10,000 blocks.
+    ensures sessions { IfOk result (λ lines. All HasSession lines) }
+    ensures few { IfOk result (λ lines. length lines ≤ 10000) }
     // It is refused for no other reason but memory.
     ensures refused { IfErr result (λ e. IsFaultOf input.now e) }
 {

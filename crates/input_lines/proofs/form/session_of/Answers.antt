@@ -1,6 +1,5 @@
 -- The digits are the session's, and other texts are none's.
-use Rattle.std.proofs.Common.{◌≡◌, ℕ, Result, Ok, Err, arith, subst}
-use Rattle.std.specs.Str.Parse.{ParsesUnsigned}
+use Rattle.std.proofs.Common.{arith}
 use Rattle.input_lines.proofs.Marks.{not_first, spelled, unspelled}
 use Rattle.input_lines.proofs.form.session_of.Goals as goal
 
