@@ -1,0 +1,4 @@
+pub mod Documents
+pub mod EntriesSoFar
+pub mod NameSets
+pub mod Pairs

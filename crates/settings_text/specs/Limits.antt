@@ -1,0 +1,51 @@
+-- The ranges of numbers and the lengths of lists.
+use Rattle.std.specs.Prelude.{ℕ, ℤ, pos, negsuc, Bool, ◌&&◌, ◌||◌, length, nat_le, nat_lt, unwrap_or, Option, Some, None, option_map, if◌then◌else◌}
+use Rattle.sp_model.specs.declared.settings.Connection.{Connection}
+use Rattle.sp_model.specs.declared.settings.Limiter.{Limiter}
+use Rattle.sp_model.specs.declared.settings.Options.{Options}
+use Rattle.settings_text.specs.declared.written.WrittenLimiter.{WrittenLimiter}
+use Rattle.settings_text.specs.declared.written.WrittenOptions.{WrittenOptions}
+
+-- a number of this range
+abbrev pub within : ℕ → ℕ → ℤ → Option ℕ
+within least most (pos n) = if nat_le least n && nat_le n most then Some n else None
+within least most (negsuc n) = None
+
+-- a number of this range, or none
+abbrev pub none_or_within : ℕ → ℕ → Option ℤ → Option (Option ℕ)
+none_or_within least most None = Some None
+none_or_within least most (Some z) = option_map Some (within least most z)
+
+abbrev pub options_from : Bool → Option ℕ → Option ℕ → Option ℕ → Option ℕ → Option Options
+options_from cache (Some cache_ttl) (Some cache_max) (Some window) (Some restarts) =
+    Some (record { cache = cache; cache_ttl = cache_ttl; cache_max = cache_max; window = window; restarts = restarts })
+options_from cache _ _ _ _ = None
+
+abbrev pub options_within : WrittenOptions → Option Options
+options_within w = options_from w.cache
+    (within 0 1000000000000 w.cache_ttl)
+    (within 1 1024 w.cache_max)
+    (within 1 4096 w.window)
+    (within 0 100 w.restarts)
+
+-- at most 64 texts of a command, and 64 patterns
+abbrev pub is_long : Connection → Bool
+is_long c = nat_lt 64 (length c.command) || nat_lt 64 (length c.connections)
+
+abbrev pub limiter_from : WrittenLimiter → Option (Option ℕ) → Option (Option ℕ) → Option ℕ → Option (Option ℕ) → Option Limiter
+limiter_from w (Some bucket_size) (Some fill) (Some per) (Some max_concurrency) =
+    Some (record { name = w.name; bucket_size = bucket_size; fill = fill; per = per; max_concurrency = max_concurrency; scope = w.scope; conds = w.conds })
+limiter_from w _ _ _ _ = None
+
+abbrev pub is_short : WrittenLimiter → Bool
+is_short w = nat_le (length w.scope) 16 && nat_le (length w.conds) 16
+
+-- at most 16 names in the scope and 16 conditions; `per` is 1000 where it is absent
+abbrev pub limiter_within : WrittenLimiter → Option Limiter
+limiter_within w = if is_short w
+    then limiter_from w
+    (none_or_within 1 1000000 w.rates.bucket_size)
+    (none_or_within 1 1000000 w.rates.fill)
+    (within 1 1000000000 (unwrap_or w.rates.per (pos 1000)))
+    (none_or_within 1 1000000 w.rates.max_concurrency)
+    else None

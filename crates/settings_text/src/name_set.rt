@@ -1,0 +1,43 @@
+ghost use Rattle.std.specs.Prelude.{◌≡◌, [], ◌∷◌, ◌++◌, not, if◌then◌else◌, IfOk};
+ghost use Rattle.settings_text.specs.Members.{is_among};
+
+use indexmap::IndexSet;
+use sp_value::Memory;
+use std::alloc::Global;
+use std::marker::Model;
+
+/// Names, each once, in the order in which they came. Contracts see their list.
+#[derive(Drop)]
+pub struct NameSet<'a> {
+    names: IndexSet<&'a str>,
+}
+
+impl<'a> Model for NameSet<'a> {
+    ghost use Rattle.std.specs.Prelude.{List, ℕ, map};
+
+    ghost Value = { List (List ℕ) };
+
+    ghost view = { λ s. map (λ n. n.now) s.names.keys };
+}
+
+impl<'a> NameSet<'a> {
+    /// No names.
+    pub fn new(alloc: Global) -> NameSet<'a>
+        ensures { result ≡ [] }
+    {
+        NameSet {
+            names: IndexSet::new(alloc),
+        }
+    }
+
+    /// Puts a name at the end, unless it is there already, and answers whether it was new.
+    pub fn insert(&mut self, name: &'a str) -> Result<bool, Memory>
+        ensures added { IfOk result (λ b. b ≡ not (is_among self.old name.now)) }
+        ensures names { IfOk result (λ b. self.new ≡ (if b then self.old ++ name.now ∷ [] else self.old)) }
+    {
+        let Ok(added) = self.names.insert(name) else {
+            return Err(Memory);
+        };
+        Ok(added)
+    }
+}

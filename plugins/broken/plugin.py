@@ -1,0 +1,82 @@
+#!/usr/bin/env python3
+"""A plugin with the fault that its argument names, for plugins/check_test; without a fault for `none`."""
+import json
+import sys
+import time
+
+FAULT = sys.argv[1]
+COLUMNS = [
+    {"name": "id", "kind": "int"},
+    {"name": "name", "kind": "text"},
+    {"name": "owner", "kind": "text", "function": "getOwner"},
+]
+TABLE = {
+    "name": "item",
+    "columns": COLUMNS,
+    "list": {"function": "listItems", "keys": [{"column": "name", "require": "optional"}]},
+    "get": {"function": "getItem", "keys": [{"column": "id"}]},
+    "functions": [{"name": "getOwner", "depends": ["getTags"]}, {"name": "getTags"}],
+}
+ITEMS = [{"id": 1, "name": "ant"}, {"id": 2, "name": "bee"}, {"id": 3, "name": None}]
+
+
+def nested(depth):
+    return {"of": nested(depth - 1)} if depth > 1 else {}
+
+
+# What stands in the place of the first item.
+FIRST_ITEMS = {
+    "float": {"id": 1.5},
+    "large number": {"id": 2**63},
+    "another kind": {"id": "1"},
+    "deep": {"id": 1, "more": nested(100)},
+    "long": {"id": 1, "name": "a" * 1048576},
+}
+
+
+def replies(request):
+    if request["op"] == "declare":
+        if FAULT == "declare fails":
+            return [{"error": "AccessDenied: no credentials"}]
+        if FAULT == "declaration":
+            TABLE["columns"][0]["kind"] = "number"
+        return [{"declaration": {"tables": [TABLE]}}]
+    if request["op"] == "version":
+        return [{"version": 1}]
+    if request.get("function") in ["listItems", "getItem"]:
+        items = list(ITEMS)
+        if FAULT != "condition":
+            for name, _, value in request["conditions"]:
+                items = [item for item in items if item[name] == value]
+        if FAULT in FIRST_ITEMS:
+            items = [FIRST_ITEMS[FAULT]] + items[1:]
+    elif request.get("function") in ["getTags", "getOwner"]:
+        items = [{"owner": "ann"}] * (2 if FAULT == "two results" else 1)
+    else:
+        return [{"error": "Unsupported: no such call"}]
+    return [{"item": item} for item in items] + [{"end": True}]
+
+
+def spelled(request, reply):
+    line = {"id": request["id"], **reply}
+    if FAULT == "member too many" and "end" in reply:
+        line["count"] = 3
+    if FAULT == "unknown id" and "end" in reply:
+        print(json.dumps({"id": 99, "end": True}))
+    return json.dumps(line)
+
+
+if FAULT == "greeting":
+    print("plugin started", flush=True)
+for text in sys.stdin:
+    try:
+        asked = json.loads(text)
+        asked["id"]
+    except (ValueError, KeyError, TypeError):
+        continue
+    for answer in replies(asked):
+        print(spelled(asked, answer), flush=FAULT != "not flushed")
+    if FAULT == "ends too early" and asked["op"] == "version":
+        break
+if FAULT == "runs on":
+    time.sleep(60)
