@@ -1,0 +1,18 @@
+//! A statement's names and kinds, bound to the tables that connections declare.
+#![tactic(auto)]
+
+mod binding;
+mod bound;
+mod catalog;
+mod fault;
+mod fitting;
+mod needed;
+mod sources;
+
+pub use binding::bind;
+pub use bound::{
+    Bound, BoundAsked, BoundExpr, BoundItem, BoundKey, BoundOperand, BoundSource, Column,
+};
+pub use catalog::Catalog;
+pub use fault::BindFault;
+pub use needed::connections_of;
