@@ -8,11 +8,12 @@ use Rattle.sql_grammar.specs.declared.ast.Statement.{Statement}
 use Rattle.sql_bind.specs.Binding.{bound_by}
 use Rattle.sql_bind.specs.First.{first_of}
 use Rattle.sql_bind.specs.Parts.{Part, parts_of}
-use Rattle.sql_bind.specs.Refusals.{unknown_connection, unknown_table, unknown_column, ambiguous, type_mismatch, ninth_source}
+use Rattle.sql_bind.specs.Refusals.{unknown_connection, unknown_table, broken, ninth_source}
 use Rattle.sql_bind.specs.Sources.{Seen, opened, seen_of}
 use Rattle.sql_bind.specs.declared.bound.Bound.{Bound}
 use Rattle.sql_bind.specs.declared.fault.BindFault.{BindFault}
 use Rattle.sql_bind.specs.declared.fault.BindFault.TheVariants as fault
+use Rattle.sql_bind.specs.declared.judging.Rule.TheVariants as rule
 
 -- the answer is this one, unless memory is wanting
 abbrev pub IsUnlessMemory : {T : Type 0} → Result T BindFault → Result T BindFault → Type 0
@@ -43,9 +44,9 @@ needed settings s =
 -- the first of these kinds that there is, at its first part
 abbrev pub refused_part : List Part → Option BindFault
 refused_part parts =
-    option_or (option_map fault.UnknownColumn (first_of unknown_column parts))
-    (option_or (option_map fault.Ambiguous (first_of ambiguous parts))
-    (option_map fault.TypeMismatch (first_of type_mismatch parts)))
+    option_or (option_map fault.UnknownColumn (first_of (broken rule.UnknownColumn) parts))
+    (option_or (option_map fault.Ambiguous (first_of (broken rule.Ambiguous) parts))
+    (option_map fault.TypeMismatch (first_of (broken rule.TypeMismatch) parts)))
 
 -- the first refusal in the order of kinds
 abbrev pub refusal : Settings → (List ℕ → Option Declaration) → List Seen → Statement → Option BindFault

@@ -20,7 +20,7 @@ use Rattle.sql_grammar.specs.declared.ast.Ref.{Ref}
 use Rattle.sql_grammar.specs.declared.ast.Shown.{Shown}
 use Rattle.sql_grammar.specs.declared.ast.Shown.TheVariants as shown
 use Rattle.sql_grammar.specs.declared.ast.Statement.{Statement}
-use Rattle.sql_bind.specs.Fits.{fits}
+use Rattle.sql_bind.specs.Fits.{fits_of}
 use Rattle.sql_bind.specs.Sources.{Seen}
 use Rattle.sql_bind.specs.declared.bound.Bound.{Bound}
 use Rattle.sql_bind.specs.declared.bound.BoundAsked.{BoundAsked}
@@ -34,19 +34,21 @@ use Rattle.sql_bind.specs.declared.bound.BoundOperand.TheVariants as bound_opera
 use Rattle.sql_bind.specs.declared.bound.BoundSource.{BoundSource}
 use Rattle.sql_bind.specs.declared.bound.Column.{Column}
 use Rattle.sql_bind.specs.declared.fitting.Fit.{Fit}
+use Rattle.sql_bind.specs.declared.fitting.Fits.{Fits}
+use Rattle.sql_bind.specs.declared.fitting.Fits.TheVariants as fit
 
 -- ---- columns
 
 abbrev pub column_at : ℕ → ℕ → Column
 column_at source column = record { source = source; column = column }
 
--- the first that fits; it is the only one where nothing is refused
-abbrev pub first_fit : List Fit → Fit
-first_fit [] = record { source = 0; column = 0; kind = kind.Json }
-first_fit (f ∷ fs) = f
+-- the one that fits, which there is where nothing is refused
+abbrev pub one_fit : Fits → Fit
+one_fit (fit.One f) = f
+one_fit _ = record { source = 0; column = 0; kind = kind.Json }
 
 abbrev pub fit_of : List Seen → Ref → Fit
-fit_of looked r = first_fit (fits looked r)
+fit_of looked r = one_fit (fits_of looked r)
 
 abbrev pub column_of : List Seen → Ref → Column
 column_of looked r = column_at (fit_of looked r).source (fit_of looked r).column

@@ -10,17 +10,21 @@ use Rattle.sql_grammar.specs.declared.ast.Asked.{Asked}
 use Rattle.sql_grammar.specs.declared.ast.Asked.TheVariants as asked
 use Rattle.sql_grammar.specs.declared.ast.Constant.{Constant}
 use Rattle.sql_grammar.specs.declared.ast.Constant.TheVariants as constant
+use Rattle.sql_grammar.specs.declared.ast.Expr.{Expr}
 use Rattle.sql_grammar.specs.declared.ast.Operand.{Operand}
 use Rattle.sql_grammar.specs.declared.ast.Operand.TheVariants as operand
 use Rattle.sql_grammar.specs.declared.ast.Ref.{Ref}
 use Rattle.sql_grammar.specs.declared.ast.Source.{Source}
 use Rattle.sql_grammar.specs.declared.ast.Statement.{Statement}
 use Rattle.sql_bind.specs.First.{first_of}
-use Rattle.sql_bind.specs.Fits.{fits}
+use Rattle.sql_bind.specs.Fits.{fits_of}
 use Rattle.sql_bind.specs.Known.{is_connection}
-use Rattle.sql_bind.specs.Parts.{Part, Shows, Opens, Tests, Sorts, Test, refs_of}
+use Rattle.sql_bind.specs.Parts.{Part, Shows, Opens, Tests, Sorts, Test, tests_of, refs_of}
 use Rattle.sql_bind.specs.Sources.{Opened, Seen, opened, alias_of, table_of}
-use Rattle.sql_bind.specs.declared.fitting.Fit.{Fit}
+use Rattle.sql_bind.specs.declared.fitting.Fits.{Fits}
+use Rattle.sql_bind.specs.declared.fitting.Fits.TheVariants as fit
+use Rattle.sql_bind.specs.declared.judging.Rule.{Rule}
+use Rattle.sql_bind.specs.declared.judging.Rule.TheVariants as rule
 
 abbrev pub place_unless : Bool → ℕ → Option ℕ
 place_unless true place = None
@@ -28,15 +32,19 @@ place_unless false place = Some place
 
 -- ---- sources
 
+abbrev pub connection_place : Settings → Opened → Option ℕ
+connection_place settings o = place_unless (is_connection settings o.source.connection.text) o.source.connection.place
+
 -- the name of the first connection that isn't in the settings
 abbrev pub unknown_connection : Settings → Statement → Option ℕ
-unknown_connection settings s =
-    first_of (λ o. place_unless (is_connection settings o.source.connection.text) o.source.connection.place) (opened s)
+unknown_connection settings s = first_of (connection_place settings) (opened s)
+
+abbrev pub table_place : (List ℕ → Option Declaration) → Opened → Option ℕ
+table_place declarations o = place_unless (is_some (table_of declarations o.source)) o.source.table.place
 
 -- the name of the first table that isn't declared
 abbrev pub unknown_table : (List ℕ → Option Declaration) → Statement → Option ℕ
-unknown_table declarations s =
-    first_of (λ o. place_unless (is_some (table_of declarations o.source)) o.source.table.place) (opened s)
+unknown_table declarations s = first_of (table_place declarations) (opened s)
 
 -- the connection's name of the ninth source
 abbrev pub ninth_source : Statement → Option ℕ
@@ -44,22 +52,23 @@ ninth_source s = option_map (λ (o : Opened). o.source.connection.place) (slice_
 
 -- ---- refs
 
-abbrev pub place_of_none : List Fit → ℕ → Option ℕ
-place_of_none [] place = Some place
-place_of_none (f ∷ fs) place = None
+abbrev pub place_of_none : Fits → ℕ → Option ℕ
+place_of_none fit.None place = Some place
+place_of_none (fit.One f) place = None
+place_of_none fit.Several place = None
 
-abbrev pub place_of_several : List Fit → ℕ → Option ℕ
-place_of_several [] place = None
-place_of_several (f ∷ []) place = None
-place_of_several (f ∷ g ∷ fs) place = Some place
+abbrev pub place_of_several : Fits → ℕ → Option ℕ
+place_of_several fit.None place = None
+place_of_several (fit.One f) place = None
+place_of_several fit.Several place = Some place
 
 -- a ref that fits no source
 abbrev pub unknown_ref : List Seen → Ref → Option ℕ
-unknown_ref looked r = place_of_none (fits looked r) r.place
+unknown_ref looked r = place_of_none (fits_of looked r) r.place
 
 -- a ref that fits two or more
 abbrev pub ambiguous_ref : List Seen → Ref → Option ℕ
-ambiguous_ref looked r = place_of_several (fits looked r) r.place
+ambiguous_ref looked r = place_of_several (fits_of looked r) r.place
 
 -- a source with the alias of one before it, at its connection's name
 abbrev pub repeated_alias : List Seen → Source → Option ℕ
@@ -68,13 +77,13 @@ repeated_alias before s = place_unless (not (list_any (λ b. bytes_eq (alias_of 
 -- ---- kinds
 
 -- the kind of the one column that a ref fits
-abbrev pub kind_of_fits : List Fit → Option Kind
-kind_of_fits [] = None
-kind_of_fits (f ∷ []) = Some f.kind
-kind_of_fits (f ∷ g ∷ fs) = None
+abbrev pub kind_of_fits : Fits → Option Kind
+kind_of_fits fit.None = None
+kind_of_fits (fit.One f) = Some f.kind
+kind_of_fits fit.Several = None
 
 abbrev pub ref_kind : List Seen → Ref → Option Kind
-ref_kind looked r = kind_of_fits (fits looked r)
+ref_kind looked r = kind_of_fits (fits_of looked r)
 
 -- null has no kind of its own
 abbrev pub constant_kind : Constant → Option Kind
@@ -140,3 +149,13 @@ type_mismatch (Shows looked r) = None
 type_mismatch (Opens before s) = None
 type_mismatch (Tests looked t) = mismatched_test looked t
 type_mismatch (Sorts looked k) = place_unless (not (is_json (ref_kind looked k.of))) k.of.place
+
+-- where a part breaks a rule
+abbrev pub broken : Rule → Part → Option ℕ
+broken rule.UnknownColumn part = unknown_column part
+broken rule.Ambiguous part = ambiguous part
+broken rule.TypeMismatch part = type_mismatch part
+
+-- where the tests of a condition break a rule first
+unfoldable pub broken_in : Rule → List Seen → Expr → Option ℕ
+broken_in rule looked e = first_of (broken rule) (map (Tests looked) (tests_of e))

@@ -25,12 +25,13 @@ opened s = record { source = s.from; on = None } ∷ map opened_by s.joins
 abbrev pub alias_of : Source → List ℕ
 alias_of s = option_map_or (λ (n : Name). n.text) s.alias s.table.text
 
-abbrev pub table_named : List ℕ → Declaration → Option TableDecl
-table_named name d = find (λ t. bytes_eq t.name name) d.tables
+-- the first table of a name
+abbrev pub first_table : List ℕ → List TableDecl → Option TableDecl
+first_table name tables = find (λ t. bytes_eq t.name name) tables
 
 -- the table of a source, by the declarations of connections; a connection without a declaration has no table
 abbrev pub table_of : (List ℕ → Option Declaration) → Source → Option TableDecl
-table_of declarations s = option_and_then (table_named s.table.text) (declarations s.connection.text)
+table_of declarations s = option_and_then (λ (d : Declaration). first_table s.table.text d.tables) (declarations s.connection.text)
 
 -- a source whose table is declared
 pub record Seen : Type 0 where

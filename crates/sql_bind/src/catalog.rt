@@ -1,4 +1,5 @@
-ghost use Rattle.std.specs.Prelude.{◌≡◌, ℕ, List, map, position, false, bytes_eq, Some, None, IfOk, IsTrue};
+ghost use Rattle.std.specs.Prelude.{◌≡◌, ℕ, List, map, false, bytes_eq, Some, None, IfOk, IsTrue};
+ghost use Rattle.std.specs.List.{position_from};
 ghost use Rattle.std.specs.Option.{option_copied};
 ghost use Rattle.sql_bind.specs.Known.{is_connection, nothing_declared, declaration_of};
 
@@ -39,7 +40,7 @@ fn none_for(alloc: Global, connections: &[Connection]) -> Result<Items<Option<De
 }
 
 fn place_of(connections: &[Connection], name: &Text) -> Option<usize>
-    ensures { result ≡ position (λ c. bytes_eq c.name name.now) connections.now }
+    ensures { result ≡ position_from (λ c. bytes_eq c.name name.now) 0 connections.now }
 {
     connections.iter().position(|c| c.name == *name)
 }
@@ -61,9 +62,21 @@ impl Catalog {
         ensures declared { declaration_of self.new connection.now ≡ Some declaration }
         ensures others { (name : List ℕ) → bytes_eq connection.now name ≡ false → declaration_of self.new name ≡ declaration_of self.old name }
     {
-        if let Some(place) = place_of(self.settings.connections.as_slice(), connection) {
-            self.declared.set(place, Some(declaration));
-        }
+        let Some(place) = place_of(self.settings.connections.as_slice(), connection) else {
+            return;
+        };
+        self.declared.set(place, Some(declaration));
+    }
+
+    /// Whether the settings have a connection of that name.
+    pub(crate) fn has(&self, name: &Text) -> bool
+        ensures { result ≡ is_connection self.now.settings name.now }
+    {
+        self.settings
+            .connections
+            .as_slice()
+            .iter()
+            .any(|c| c.name == *name)
     }
 
     /// The settings, lent.
@@ -77,8 +90,12 @@ impl Catalog {
     pub fn declaration(&self, connection: &Text) -> Option<&Declaration>
         ensures { option_copied result ≡ declaration_of self.now connection.now }
     {
-        let place = place_of(self.settings.connections.as_slice(), connection)?;
-        let declared = self.declared.get(place)?;
-        declared.as_ref()
+        let Some(place) = place_of(self.settings.connections.as_slice(), connection) else {
+            return None;
+        };
+        match self.declared.get(place) {
+            Some(declared) => declared.as_ref(),
+            None => None,
+        }
     }
 }

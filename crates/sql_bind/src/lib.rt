@@ -6,8 +6,10 @@ mod bound;
 mod catalog;
 mod fault;
 mod fitting;
+mod judging;
 mod needed;
 mod sources;
+mod walking;
 
 pub use binding::bind;
 pub use bound::{
