@@ -1,3 +1,4 @@
 pub mod Declared
 pub mod Firsts
 pub mod TestLaws
+pub mod BoundLaws

@@ -47,10 +47,7 @@ fn is_alias(before: &[Seen], alias: &Text) -> bool
 pub(crate) fn repeated_alias(before: &[Seen], source: &Source) -> Option<u64>
     ensures { result ≡ repeated_alias before.now source.now }
 {
-    unless(
-        !is_alias(before, alias_of(source)),
-        source.connection.place,
-    )
+    unless(!is_alias(before, alias_of(source)), source.connection.place)
 }
 
 pub(crate) fn ref_kind(looked: &[Seen], of: &Ref) -> Option<Kind>
@@ -119,8 +116,7 @@ fn may_stand(kind: Option<Kind>) -> bool
 fn may_be_in(kind: Option<Kind>, list: &[Literal]) -> bool
     ensures { result ≡ list_all (λ l. may_compare kind (constant_kind l.constant)) list.now }
 {
-    list.iter()
-        .all(|literal| may_compare(kind, constant_kind(&literal.constant)))
+    list.iter().all(|literal| may_compare(kind, constant_kind(&literal.constant)))
 }
 
 fn may_ask(looked: &[Seen], kind: Option<Kind>, asked: &Asked) -> bool

@@ -4,6 +4,7 @@
 mod binding;
 mod bound;
 mod catalog;
+mod conditions;
 mod fault;
 mod fitting;
 mod judging;

@@ -82,11 +82,7 @@ fn table_of<'a>(catalog: &'a Catalog, source: &Source) -> Option<&'a TableDecl>
     table_named(&source.table.text, declaration)
 }
 
-fn seen_by<'a>(
-    catalog: &'a Catalog,
-    source: &'a Source,
-    on: Option<&'a Expr>,
-) -> Option<Seen<'a>>
+fn seen_by<'a>(catalog: &'a Catalog, source: &'a Source, on: Option<&'a Expr>) -> Option<Seen<'a>>
     ensures { result ≡ seen_by (declaration_of catalog.now) (record { source = source.now; on = option_copied on.entry }) }
 {
     let table = table_of(catalog, source)?;
@@ -127,7 +123,10 @@ pub(crate) fn unless(holds: bool, place: u64) -> Option<u64>
 fn connection_place(catalog: &Catalog, source: &Source) -> Option<u64>
     ensures { result ≡ place_unless (is_connection catalog.now.settings source.now.connection.text) source.now.connection.place }
 {
-    unless(catalog.has(&source.connection.text), source.connection.place)
+    unless(
+        catalog.has(&source.connection.text),
+        source.connection.place,
+    )
 }
 
 /// The name of the first connection that isn't in the settings.
