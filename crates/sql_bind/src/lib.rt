@@ -10,6 +10,8 @@ mod fitting;
 mod judging;
 mod needed;
 mod sources;
+#[cfg(test)]
+mod tests;
 mod walking;
 
 pub use binding::bind;
