@@ -2,3 +2,4 @@ pub mod Declared
 pub mod Firsts
 pub mod TestLaws
 pub mod BoundLaws
+pub mod Agreeing

@@ -1,5 +1,5 @@
 -- What binding answers.
-use Rattle.std.specs.Prelude.{◌≡◌, ℕ, List, [], ◌∷◌, ◌++◌, map, bytes_eq, Option, Some, None, option_map, Result, Ok, Err, if◌then◌else◌}
+use Rattle.std.specs.Prelude.{◌≡◌, ℕ, true, List, [], ◌∷◌, ◌++◌, map, bytes_eq, Option, Some, None, option_map, Result, Ok, Err, if◌then◌else◌}
 use Rattle.std.specs.List.{list_any}
 use Rattle.std.specs.Option.{option_or}
 use Rattle.sp_model.specs.declared.declaration.Declaration.{Declaration}
@@ -34,10 +34,13 @@ abbrev pub each_once : List (List ℕ) → List (List ℕ) → List (List ℕ)
 each_once found [] = found
 each_once found (name ∷ names) = each_once (with_name found name) names
 
--- the connections that a statement needs, in order of first use, or the first one that the settings don't have
+-- the connections that the sources name, in order of first use
+abbrev pub connections_named : Statement → List (List ℕ)
+connections_named s = each_once [] (map (λ o. o.source.connection.text) (opened s))
+
+-- the connections that a statement needs, or the first one that the settings don't have
 abbrev pub needed : Settings → Statement → Result (List (List ℕ)) BindFault
-needed settings s =
-    refused_or (option_map fault.UnknownConnection (unknown_connection settings s)) (each_once [] (map (λ o. o.source.connection.text) (opened s)))
+needed settings s = refused_or (option_map fault.UnknownConnection (unknown_connection settings s)) (connections_named s)
 
 -- ---- statements
 
@@ -59,3 +62,9 @@ refusal settings declarations seen s =
 -- the statement with columns in place of names, or the first refusal, by the settings and the declarations of connections
 abbrev pub bound : Settings → (List ℕ → Option Declaration) → Statement → Result Bound BindFault
 bound settings declarations s = refused_or (refusal settings declarations (seen_of declarations s) s) (bound_by (seen_of declarations s) s)
+
+-- what is bound depends on the declarations of the connections that the sources name, and on no other
+abbrev pub BindsByItsConnections : Type 0
+BindsByItsConnections = (settings : Settings) (declarations others : List ℕ → Option Declaration) (s : Statement)
+    → ((name : List ℕ) → list_any (bytes_eq name) (connections_named s) ≡ true → declarations name ≡ others name)
+    → bound settings declarations s ≡ bound settings others s

@@ -1,5 +1,5 @@
 -- What is known when a statement is bound.
-use Rattle.std.specs.Prelude.{ℕ, Bool, List, [], ◌∷◌, map, bytes_eq, Option, Some, None, if◌then◌else◌}
+use Rattle.std.specs.Prelude.{ℕ, Bool, List, [], ◌∷◌, map, bytes_eq, Option, None, if◌then◌else◌}
 use Rattle.std.specs.List.{list_any}
 use Rattle.sp_model.specs.declared.declaration.Declaration.{Declaration}
 use Rattle.sp_model.specs.declared.settings.Connection.{Connection}

@@ -5,7 +5,6 @@ use Rattle.sql_grammar.specs.declared.ast.Asked.{Asked}
 use Rattle.sql_grammar.specs.declared.ast.Asked.TheVariants as asked
 use Rattle.sql_grammar.specs.declared.ast.Expr.{Expr, fold-Expr}
 use Rattle.sql_grammar.specs.declared.ast.Expr.TheOpen.{Expr-F}
-use Rattle.sql_grammar.specs.declared.ast.Item.{Item}
 use Rattle.sql_grammar.specs.declared.ast.Key.{Key}
 use Rattle.sql_grammar.specs.declared.ast.Operand.{Operand}
 use Rattle.sql_grammar.specs.declared.ast.Operand.TheVariants as operand

@@ -1,7 +1,6 @@
 -- Where names and kinds are wrong.
-use Rattle.std.specs.Prelude.{ℕ, Bool, true, false, not, List, [], ◌∷◌, map, bytes_eq, slice_get, is_some, Option, Some, None, option_map, if◌then◌else◌}
+use Rattle.std.specs.Prelude.{ℕ, Bool, true, false, not, List, map, bytes_eq, slice_get, is_some, Option, Some, None, option_map}
 use Rattle.std.specs.List.{list_any, list_all}
-use Rattle.std.specs.Option.{option_or}
 use Rattle.sp_value.specs.declared.kind.Kind.{Kind}
 use Rattle.sp_value.specs.declared.kind.Kind.TheVariants as kind
 use Rattle.sp_model.specs.declared.declaration.Declaration.{Declaration}

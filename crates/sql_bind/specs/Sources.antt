@@ -1,5 +1,5 @@
 -- The sources of a statement, in the order of its text.
-use Rattle.std.specs.Prelude.{ℕ, List, [], ◌∷◌, map, find, bytes_eq, Option, Some, None, option_and_then, option_map}
+use Rattle.std.specs.Prelude.{ℕ, List, ◌∷◌, map, find, bytes_eq, Option, Some, None, option_and_then, option_map}
 use Rattle.std.specs.List.{filter_map}
 use Rattle.std.specs.Option.{option_map_or}
 use Rattle.sp_model.specs.declared.declaration.Declaration.{Declaration}

@@ -8,6 +8,7 @@ mod conditions;
 mod fault;
 mod fitting;
 mod judging;
+mod laws;
 mod needed;
 mod sources;
 #[cfg(test)]
@@ -20,4 +21,5 @@ pub use bound::{
 };
 pub use catalog::Catalog;
 pub use fault::BindFault;
+pub use laws::binds_by_its_connections;
 pub use needed::connections_of;

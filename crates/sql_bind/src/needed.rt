@@ -1,9 +1,8 @@
 // The connections that a statement needs.
 
-ghost use Rattle.std.specs.Prelude.{◌≡◌, bytes_eq, map, OnOk, IfOk, []};
+ghost use Rattle.std.specs.Prelude.{◌≡◌, bytes_eq, OnOk, IfOk};
 ghost use Rattle.std.specs.List.{list_any};
-ghost use Rattle.sql_bind.specs.Answer.{IsUnlessMemory, with_name, each_once, needed};
-ghost use Rattle.sql_bind.specs.Sources.{opened};
+ghost use Rattle.sql_bind.specs.Answer.{IsUnlessMemory, with_name, connections_named, needed};
 
 use crate::catalog::Catalog;
 use crate::fault::BindFault;
@@ -34,7 +33,7 @@ fn add_name(alloc: Global, names: &mut Texts, name: &Text) -> Result<(), Memory>
 }
 
 fn names_of(alloc: Global, statement: &Statement) -> Result<Texts, Memory>
-    ensures { IfOk result (λ names. names ≡ each_once [] (map (λ o. o.source.connection.text) (opened statement.now))) }
+    ensures { IfOk result (λ names. names ≡ connections_named statement.now) }
 {
     let mut names = Items::new(alloc);
     add_name(alloc, &mut names, &statement.from.connection.text)?;
