@@ -1,0 +1,5 @@
+pub mod Declared
+pub mod Firsts
+pub mod TestLaws
+pub mod BoundLaws
+pub mod Agreeing

@@ -1,0 +1,73 @@
+// A statement with columns in place of names.
+
+use sp_model::TableDecl;
+use sp_value::{Cell, Cells, Kind, Op, Text, Texts};
+use sqlite_items::{Boxed, Items};
+
+/// A column of a source, both counted from 0.
+#[derive(Clone, Copy, Debug, PartialEq, Eq)]
+pub struct Column {
+    pub source: u32,
+    pub column: u32,
+}
+
+/// What a condition reads.
+#[derive(Drop)]
+pub enum BoundOperand {
+    Column(Column),
+    Literal(Cell),
+}
+
+/// What is asked of a test's first operand.
+#[derive(Drop)]
+pub enum BoundAsked {
+    /// Whether it is true.
+    Truth,
+    Compares { op: Op, with: BoundOperand },
+    IsIn { negated: bool, list: Cells },
+    IsNull { negated: bool },
+}
+
+/// A condition.
+#[derive(Drop)]
+pub enum BoundExpr {
+    Or(Items<BoundExpr>),
+    And(Items<BoundExpr>),
+    Not(Boxed<BoundExpr>),
+    Test { of: BoundOperand, asked: BoundAsked },
+}
+
+/// A source: the connection as the statement names it, the plain connections that it stands for, its table, and the
+/// condition on which its rows are joined. The first source has none.
+#[derive(Drop)]
+pub struct BoundSource {
+    pub connection: Text,
+    pub members: Texts,
+    pub table: TableDecl,
+    pub on: Option<BoundExpr>,
+}
+
+/// A column that is shown, under its name in the answer.
+#[derive(Drop)]
+pub struct BoundItem {
+    pub column: Column,
+    pub name: Text,
+    pub kind: Kind,
+}
+
+/// A key of the order.
+#[derive(Clone, Copy, Debug, PartialEq, Eq)]
+pub struct BoundKey {
+    pub column: Column,
+    pub down: bool,
+}
+
+/// A statement whose names are bound. It has 1 to 8 sources.
+#[derive(Drop)]
+pub struct Bound {
+    pub sources: Items<BoundSource>,
+    pub shown: Items<BoundItem>,
+    pub test: Option<BoundExpr>,
+    pub order: Items<BoundKey>,
+    pub limit: Option<u64>,
+}

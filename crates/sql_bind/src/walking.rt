@@ -1,0 +1,196 @@
+// Where the parts of a statement break a rule first, in the order of the text.
+
+ghost use Rattle.std.specs.Prelude.{◌≡◌, ◌+◌, ◌<◌, ◌≤◌, length, map, take};
+ghost use Rattle.std.specs.Option.{option_copied, option_or};
+ghost use Rattle.sql_bind.specs.First.{first_of};
+ghost use Rattle.sql_bind.specs.Parts.{Shows, Opens, Tests, Sorts, operand_refs, asked_refs, refs_of, shown_parts, condition_parts, source_parts, parts_of};
+ghost use Rattle.sql_bind.specs.Refusals.{broken, broken_in};
+
+use crate::judging::{
+    Rule, ambiguous_ref, is_json, mismatched_test, ref_kind, repeated_alias, unknown_ref,
+};
+use crate::sources::{Seen, unless};
+use sql_grammar::{Asked, Expr, Item, Key, Operand, Ref, Shown, Source, Statement};
+
+fn ref_place(rule: Rule, looked: &[Seen], of: &Ref) -> Option<u64>
+    ensures { result ≡ broken rule (Shows looked.now of.now) }
+{
+    match rule {
+        Rule::UnknownColumn => unknown_ref(looked, of),
+        Rule::Ambiguous => ambiguous_ref(looked, of),
+        Rule::TypeMismatch => None,
+    }
+}
+
+fn source_place(rule: Rule, before: &[Seen], source: &Source) -> Option<u64>
+    ensures { result ≡ broken rule (Opens before.now source.now) }
+{
+    match rule {
+        Rule::UnknownColumn => None,
+        Rule::Ambiguous => repeated_alias(before, source),
+        Rule::TypeMismatch => None,
+    }
+}
+
+fn key_place(rule: Rule, looked: &[Seen], key: &Key) -> Option<u64>
+    ensures { result ≡ broken rule (Sorts looked.now key.now) }
+{
+    match rule {
+        Rule::UnknownColumn => unknown_ref(looked, &key.of),
+        Rule::Ambiguous => ambiguous_ref(looked, &key.of),
+        Rule::TypeMismatch => unless(!is_json(ref_kind(looked, &key.of)), key.of.place),
+    }
+}
+
+fn operand_place(rule: Rule, looked: &[Seen], operand: &Operand) -> Option<u64>
+    ensures { result ≡ first_of (λ r. broken rule (Shows looked.now r)) (operand_refs operand.now) }
+{
+    match operand {
+        Operand::Ref(of) => ref_place(rule, looked, of),
+        Operand::Literal(_) => None,
+    }
+}
+
+fn asked_place(rule: Rule, looked: &[Seen], asked: &Asked) -> Option<u64>
+    ensures { result ≡ first_of (λ r. broken rule (Shows looked.now r)) (asked_refs asked.now) }
+{
+    match asked {
+        Asked::Truth => None,
+        Asked::Compares { with, .. } => operand_place(rule, looked, with),
+        Asked::IsIn { .. } => None,
+        Asked::IsNull { .. } => None,
+    }
+}
+
+#[tactic(auto, using(crate::proofs::Firsts::first_of_append))]
+fn refs_place(rule: Rule, looked: &[Seen], of: &Operand, asked: &Asked) -> Option<u64>
+    ensures { result ≡ first_of (λ r. broken rule (Shows looked.now r)) (refs_of (record { of = of.now; asked = asked.now })) }
+{
+    if let Some(place) = operand_place(rule, looked, of) {
+        return Some(place);
+    }
+    asked_place(rule, looked, asked)
+}
+
+fn test_place(rule: Rule, looked: &[Seen], of: &Operand, asked: &Asked) -> Option<u64>
+    ensures { result ≡ broken rule (Tests looked.now (record { of = of.now; asked = asked.now })) }
+{
+    match rule {
+        Rule::UnknownColumn => refs_place(rule, looked, of, asked),
+        Rule::Ambiguous => refs_place(rule, looked, of, asked),
+        Rule::TypeMismatch => mismatched_test(looked, of, asked),
+    }
+}
+
+#[cycle(expr)]
+#[tactic(auto, using(crate::proofs::TestLaws::laws))]
+fn expr_place(rule: Rule, looked: &[Seen], e: &Expr) -> Option<u64>
+    ensures { result ≡ broken_in rule looked.now e.now }
+{
+    match e {
+        Expr::Or(members) => members_place(rule, looked, members.as_slice()),
+        Expr::And(members) => members_place(rule, looked, members.as_slice()),
+        Expr::Not(inner) => expr_place(rule, looked, inner.get()),
+        Expr::Test { of, asked } => test_place(rule, looked, of, asked),
+    }
+}
+
+#[cycle(expr)]
+fn members_place(rule: Rule, looked: &[Seen], members: &[Expr]) -> Option<u64>
+    ensures { result ≡ first_of (broken_in rule looked.now) members.now }
+{
+    for member in members {
+        if let Some(place) = expr_place(rule, looked, member) {
+            return Some(place);
+        }
+    }
+    None
+}
+
+#[tactic(auto, unfolding(crate::specs::Refusals::broken_in))]
+fn condition_place(rule: Rule, looked: &[Seen], condition: Option<&Expr>) -> Option<u64>
+    ensures { result ≡ first_of (broken rule) (condition_parts looked.now (option_copied condition.entry)) }
+{
+    match condition {
+        Some(e) => expr_place(rule, looked, e),
+        None => None,
+    }
+}
+
+/// The first of the sources, so many.
+pub(crate) fn first_sources<'s, 'a>(all: &'s [Seen<'a>], count: usize) -> &'s [Seen<'a>]
+    requires { count ≤ length all.now }
+    ensures { result.now ≡ take count all.now }
+{
+    &all[..count]
+}
+
+fn seen_place(rule: Rule, all: &[Seen], n: usize, seen: &Seen) -> Option<u64>
+    requires { n < length all.now }
+    ensures { result ≡ option_or (broken rule (Opens (take n all.now) seen.now.source)) (first_of (broken rule) (condition_parts (take (n + 1) all.now) seen.now.on)) }
+{
+    if let Some(place) = source_place(rule, first_sources(all, n), seen.source()) {
+        return Some(place);
+    }
+    condition_place(rule, first_sources(all, n + 1), seen.on())
+}
+
+#[tactic(auto, using(crate::proofs::Firsts::first_of_append))]
+fn sources_place(rule: Rule, all: &[Seen]) -> Option<u64>
+    ensures { result ≡ first_of (broken rule) (source_parts all.now 0 all.now) }
+{
+    for (n, seen) in all.iter().enumerate() {
+        if let Some(place) = seen_place(rule, all, n, seen) {
+            return Some(place);
+        }
+    }
+    None
+}
+
+fn items_place(rule: Rule, all: &[Seen], items: &[Item]) -> Option<u64>
+    ensures { result ≡ first_of (broken rule) (map (λ i. Shows all.now i.of) items.now) }
+{
+    for item in items {
+        if let Some(place) = ref_place(rule, all, &item.of) {
+            return Some(place);
+        }
+    }
+    None
+}
+
+fn shown_place(rule: Rule, all: &[Seen], shown: &Shown) -> Option<u64>
+    ensures { result ≡ first_of (broken rule) (shown_parts all.now shown.now) }
+{
+    match shown {
+        Shown::All => None,
+        Shown::Items(items) => items_place(rule, all, items.as_slice()),
+    }
+}
+
+fn keys_place(rule: Rule, all: &[Seen], keys: &[Key]) -> Option<u64>
+    ensures { result ≡ first_of (broken rule) (map (Sorts all.now) keys.now) }
+{
+    for key in keys {
+        if let Some(place) = key_place(rule, all, key) {
+            return Some(place);
+        }
+    }
+    None
+}
+
+/// The place of the first part that breaks a rule.
+#[tactic(auto, using(crate::proofs::Firsts::first_of_append))]
+pub(crate) fn first_place(rule: Rule, all: &[Seen], statement: &Statement) -> Option<u64>
+    ensures { result ≡ first_of (broken rule) (parts_of all.now statement.now) }
+{
+    if let Some(place) = shown_place(rule, all, &statement.shown) {
+        return Some(place);
+    }
+    if let Some(place) = sources_place(rule, all) {
+        return Some(place);
+    }
+    if let Some(place) = condition_place(rule, all, statement.test.as_ref()) {
+        return Some(place);
+    }
+    keys_place(rule, all, statement.order.as_slice())
+}
