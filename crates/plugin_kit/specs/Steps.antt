@@ -7,11 +7,19 @@ use Rattle.sp_world.specs.declared.line.Request.{Request}
 use Rattle.plugin_kit.specs.Lines.{is_feed, lines_of, requests_of, first_bad, request_in, kept, and_then}
 use Rattle.plugin_kit.specs.Replies.{Answered, AnsweredInPart}
 use Rattle.plugin_kit.specs.declared.stop.Stop.{Stop}
-use Rattle.plugin_kit.specs.declared.stop.Stop.TheVariants.{BadLine}
+use Rattle.plugin_kit.specs.declared.stop.Stop.TheVariants.{BadLine, WriteFault, Memory}
+use Rattle.plugin_kit.specs.declared.served.Served.{Served}
+use Rattle.plugin_kit.specs.declared.served.Served.TheVariants as served
 
 -- no byte is a line feed
 abbrev pub HasNoFeed : List ℕ → Type 0
 HasNoFeed bytes = length bytes ≤ position_or_len is_feed bytes
+
+-- how serving ends at a stop
+abbrev pub served_of : Stop → Served
+served_of (BadLine line) = served.BadLine line
+served_of WriteFault = served.WriteFault
+served_of Memory = served.Memory
 
 -- the line of a stop at a bad line
 abbrev pub bad_line : Stop → Option (List ℕ)
@@ -35,20 +43,12 @@ pub record StopsAtLine (book : Option Book) (held now : Option (List ℕ)) (line
   pub part : (later : List Request) → AnsweredInPart book held now (and_then (request_in line) later)
   pub bad : IfSome (bad_line stop) (λ keeps. IsLineBad book held now line keeps)
 
--- bytes are whole lines, each a request that was answered
-pub record AreAnswered (book : Option Book) (held now : Option (List ℕ)) (bytes : List ℕ) : Type 0 where
+-- of the bytes that were taken those that wait are left, and the lines before them were requests that were answered
+pub record HasPassed (book : Option Book) (held now : Option (List ℕ)) (taken waiting : List ℕ) : Type 0 where
   pub requests : List Request
-  pub before : (more : List ℕ) → requests_of (lines_of (bytes ++ more)) ≡ requests ++ requests_of (lines_of more)
-  pub good : (more : List ℕ) → first_bad (lines_of (bytes ++ more)) ≡ first_bad (lines_of more)
+  pub before : (more : List ℕ) → requests_of (lines_of (taken ++ more)) ≡ requests ++ requests_of (lines_of (waiting ++ more))
+  pub good : (more : List ℕ) → first_bad (lines_of (taken ++ more)) ≡ first_bad (lines_of (waiting ++ more))
   pub answered : Answered book held now requests
-
--- whole lines were answered, and what waits after them has no line feed and isn't too long for a line
-pub record IsAllAnswered (book : Option Book) (held now : Option (List ℕ)) (old new : List ℕ) : Type 0 where
-  pub bytes : List ℕ
-  pub was : old ≡ bytes ++ new
-  pub answered : AreAnswered book held now bytes
-  pub no_feed : HasNoFeed new
-  pub within : length new ≤ 68157440
 
 -- the first bad line is this one, and all before it were answered
 pub record IsBadAfter (book : Option Book) (held now : Option (List ℕ)) (bytes keeps more : List ℕ) : Type 0 where
@@ -68,6 +68,13 @@ pub record ReadsMore (left rest : Option (List ℕ)) (old new : List ℕ) (room 
   pub counted : length read ≡ count
   pub within : count ≤ room
   pub end : count ≡ 0 → IsAtEnd rest
+
+-- so many bytes were taken so far, and the lines before those that wait were answered
+pub record IsServing (book : Option Book) (left rest held now : Option (List ℕ)) (waiting : List ℕ) (count : ℕ) : Type 0 where
+  pub taken : List ℕ
+  pub consumed : Consumes left rest taken
+  pub counted : length taken ≡ count
+  pub passed : HasPassed book held now taken waiting
 
 -- what was read is lost
 pub record ReadsNoMore (left rest : Option (List ℕ)) (room : ℕ) : Type 0 where

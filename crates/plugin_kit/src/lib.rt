@@ -5,8 +5,10 @@ mod answering;
 mod line_answer;
 mod routes;
 mod served;
+mod serving;
 mod stop;
 mod waiting;
 
 pub use routes::Routes;
 pub use served::Served;
+pub use serving::serve;
