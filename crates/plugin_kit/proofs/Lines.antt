@@ -13,11 +13,11 @@ pub line_before : (bytes more : List ℕ) → first bytes < length bytes → lin
 line_before [] more h = absurd (omega (arith, h))
 line_before (x ∷ xs) more h =
     elim (is_feed x) as (λ b. first_of b xs < suc (length xs)
-        → lines_by b x (lines_of (xs ++ more)) ≡ take (first_of b xs) (x ∷ xs) ∷ lines_of (drop (suc (first_of b xs)) (x ∷ xs) ++ more)) [
+    → lines_by b x (lines_of (xs ++ more)) ≡ take (first_of b xs) (x ∷ xs) ∷ lines_of (drop (suc (first_of b xs)) (x ∷ xs) ++ more)) [
       | true ↦ λ g. refl
       | false ↦ λ g.
-        let one : suc (first xs) ≡ 1 + first xs = omega arith in
-        subst (λ (n : ℕ). begin x (lines_of (xs ++ more)) ≡ take n (x ∷ xs) ∷ lines_of (drop n xs ++ more)) one (ap (begin x) (line_before xs more (omega (arith, g))))
+          let one : suc (first xs) ≡ 1 + first xs = omega arith in
+          subst (λ (n : ℕ). begin x (lines_of (xs ++ more)) ≡ take n (x ∷ xs) ∷ lines_of (drop n xs ++ more)) one (ap (begin x) (line_before xs more (omega (arith, g))))
     ] h
 
 -- where there is none, the line goes on

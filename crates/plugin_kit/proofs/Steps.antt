@@ -174,10 +174,10 @@ pub stop_at_long : (o : Option Book) (held now : Option (List ℕ)) (taken waiti
 stop_at_long o held now taken waiting s p none long is = record {
   part = λ more. subst (AnsweredInPart o held now) (sym (p.before more)) (answered_in_part o held now p.requests (requests_of (lines_of (waiting ++ more))) p.answered);
   bad = elim s as (λ s. IfSome (bad_line s) (λ keeps. keeps ≡ kept waiting) → IfSome (bad_line s) (λ keeps. (more : List ℕ) → IsBadAfter o held now taken keeps more)) [
-      | BadLine keeps ↦ λ is. λ more. long_after o held now taken waiting keeps more p long is (goes_on waiting more none long)
-      | WriteFault ↦ λ is. tt
-      | Memory ↦ λ is. tt
-    ] is;
+    | BadLine keeps ↦ λ is. λ more. long_after o held now taken waiting keeps more p long is (goes_on waiting more none long)
+    | WriteFault ↦ λ is. tt
+    | Memory ↦ λ is. tt
+  ] is;
 }
 
 -- ---- the last line

@@ -32,9 +32,11 @@ pub begun_after : (held mid now : Option (List ℕ)) (text more : List ℕ) → 
 begun_after None mid now text more whole begun = tt
 begun_after (Some held) None now text more whole begun = absurd whole
 begun_after (Some held) (Some mid) None text more whole begun = absurd begun
-begun_after (Some held) (Some mid) (Some now) text more whole begun =
-    (text ++ begun.0, (begun.1.0, append_assoc text begun.0 begun.1.0 ∙ ap (λ l. text ++ l) begun.1.1),
-     begun.2 ∙ ap (λ l. l ++ begun.0) whole ∙ append_assoc held text begun.0)
+begun_after (Some held) (Some mid) (Some now) text more whole begun = (
+  text ++ begun.0,
+  (begun.1.0, append_assoc text begun.0 begun.1.0 ∙ ap (λ l. text ++ l) begun.1.1),
+  begun.2 ∙ ap (λ l. l ++ begun.0) whole ∙ append_assoc held text begun.0,
+)
 
 -- what was written whole begins what it goes on with
 pub begun_whole : (held now : Option (List ℕ)) (text more : List ℕ) → Appends held now text → GrewByPrefix held now (text ++ more)

@@ -55,12 +55,7 @@ fn item_line(alloc: Global, id: u64, item: &Cell) -> Result<Line, Memory>
 }
 
 /// Writes the line of an item.
-fn say_item<O: Sink>(
-    alloc: Global,
-    sink: &mut O,
-    id: u64,
-    item: &Cell,
-) -> Result<(), Unwritten>
+fn say_item<O: Sink>(alloc: Global, sink: &mut O, id: u64, item: &Cell) -> Result<(), Unwritten>
     ensures whole { OnOk result (Appends (O.held sink.old) (O.held sink.new) (line_text (replies.Item id item.now))) }
     ensures part { OnErr result (GrewByPrefix (O.held sink.old) (O.held sink.new) (line_text (replies.Item id item.now))) }
     ensures later { O.faulted sink.old ≤ O.faulted sink.new }
@@ -73,12 +68,7 @@ fn say_item<O: Sink>(
 }
 
 /// Writes the lines of items, in order.
-fn say_items<O: Sink>(
-    alloc: Global,
-    sink: &mut O,
-    id: u64,
-    items: &[Cell],
-) -> Result<(), Unwritten>
+fn say_items<O: Sink>(alloc: Global, sink: &mut O, id: u64, items: &[Cell]) -> Result<(), Unwritten>
     ensures whole { OnOk result (Appends (O.held sink.old) (O.held sink.new) (items_text id items.now)) }
     ensures part { OnErr result (GrewByPrefix (O.held sink.old) (O.held sink.new) (items_text id items.now)) }
     ensures later { O.faulted sink.old ≤ O.faulted sink.new }
@@ -124,12 +114,7 @@ fn say_ending<O: Sink>(
 
 /// Writes the lines of a reply.
 #[tactic(auto, using(crate::proofs::Writing::begun_after, crate::proofs::Writing::begun_more))]
-fn say_reply<O: Sink>(
-    alloc: Global,
-    sink: &mut O,
-    id: u64,
-    reply: &Reply,
-) -> Result<(), Unwritten>
+fn say_reply<O: Sink>(alloc: Global, sink: &mut O, id: u64, reply: &Reply) -> Result<(), Unwritten>
     ensures whole { OnOk result (Appends (O.held sink.old) (O.held sink.new) (reply_lines id reply.now)) }
     ensures part { OnErr result (GrewByPrefix (O.held sink.old) (O.held sink.new) (reply_lines id reply.now)) }
     ensures later { O.faulted sink.old ≤ O.faulted sink.new }

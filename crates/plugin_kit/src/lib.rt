@@ -7,6 +7,8 @@ mod routes;
 mod served;
 mod serving;
 mod stop;
+#[cfg(test)]
+mod tests;
 mod waiting;
 
 pub use routes::Routes;

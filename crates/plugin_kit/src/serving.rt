@@ -52,11 +52,7 @@ fn answer_waiting<R: Routes, O: Sink>(
 }
 
 /// Reads one piece more, of at most `room` bytes; nothing at the end.
-fn read_more<I: Source>(
-    source: &mut I,
-    waiting: &mut Waiting,
-    room: u64,
-) -> Result<usize, Unread>
+fn read_more<I: Source>(source: &mut I, waiting: &mut Waiting, room: u64) -> Result<usize, Unread>
     requires { 0 < room }
     ensures more { IfOk result (λ count. ReadsMore (I.left source.old) (I.left source.new) waiting.old waiting.new room count) }
     ensures fault { result ≡ Err Unread.Fault → Keeps (I.left source.old) (I.left source.new) }
@@ -77,12 +73,7 @@ fn read_more<I: Source>(
 
 /// Answers the last line, if it has no line feed.
 #[tactic(auto, using(crate::proofs::Steps::last_answered, crate::proofs::Steps::last_stopped))]
-fn answer_last<R: Routes, O: Sink>(
-    alloc: Global,
-    sink: &mut O,
-    routes: &R,
-    line: &[u8],
-) -> Served
+fn answer_last<R: Routes, O: Sink>(alloc: Global, sink: &mut O, routes: &R, line: &[u8]) -> Served
     requires { HasNoFeed line.now }
     ensures answered { IsAnswered (R.book routes.now) (O.held sink.old) (O.held sink.new) line.now result }
     ensures no_limit { result ≢ Served.Limit }

@@ -21,8 +21,8 @@ returns-in_err-say_item-clause-part g c =
     let x = c.item-item.result in
     let held = g.O.Sink.held in
     at_err c.from_residual.result _ (subst (GrewByPrefix (held c.args.sink.now) (held c.say_item.new.sink)) (sym (items_at id k items x c.loop-item-test.true c.item-item.is))
-        (begun_after (held c.args.sink.now) (held c.loop-item.sink) (held c.say_item.new.sink) (items_text id (take k items)) _ c.loop-item.invariant.written
-         (begun_more (held c.loop-item.sink) (held c.say_item.new.sink) (line_text (Item id x)) (items_text id (drop (suc k) items)) c.in_err-say_item.ensures.part)))
+    (begun_after (held c.args.sink.now) (held c.loop-item.sink) (held c.say_item.new.sink) (items_text id (take k items)) _ c.loop-item.invariant.written
+    (begun_more (held c.loop-item.sink) (held c.say_item.new.sink) (line_text (Item id x)) (items_text id (drop (suc k) items)) c.in_err-say_item.ensures.part)))
 
 pub loop-item-preserved : goal.loop-item-preserved
 loop-item-preserved g c =
@@ -33,8 +33,8 @@ loop-item-preserved g c =
     let held = g.O.Sink.held in
     record {
       written = subst (Appends (held c.args.sink.now) (held c.say_item.new.sink))
-        (sym (ap (λ n. items_text id (take n items)) (add-one k) ∙ items_to id k items x c.loop-item-test.true c.item-item.is))
-        (Appends-trans (held c.args.sink.now) (held c.loop-item.sink) (held c.say_item.new.sink) (items_text id (take k items)) (line_text (Item id x))
-         c.loop-item.invariant.written c.in_ok-say_item.ensures.whole);
+          (sym (ap (λ n. items_text id (take n items)) (add-one k) ∙ items_to id k items x c.loop-item-test.true c.item-item.is))
+          (Appends-trans (held c.args.sink.now) (held c.loop-item.sink) (held c.say_item.new.sink) (items_text id (take k items)) (line_text (Item id x))
+          c.loop-item.invariant.written c.in_ok-say_item.ensures.whole);
       later = omega (arith, c.loop-item.invariant.later, c.say_item.ensures.later);
     }

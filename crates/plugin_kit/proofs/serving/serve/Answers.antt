@@ -39,7 +39,7 @@ returns-in-Ok-eq0-clause-served g c =
     let below : l.taken + n < 2 ^ 62 = omega (arith, none, c.loop-taken-test.true) in
     served_at_end book _ _ _ (g.O.Sink.held c.answer_waiting.new.sink) _ c.read_more.new.waiting (l.taken + n) c.answer_last.result
     (serving_read _ _ (g.I.Source.left l.source) _ _ _ c.answer_waiting.new.waiting c.read_more.new.waiting l.taken _ n
-     (serving_passed _ _ _ _ (g.O.Sink.held l.sink) _ l.waiting c.answer_waiting.new.waiting l.taken l.invariant.serving c.in-Ok.ensures.passed) more)
+    (serving_passed _ _ _ _ (g.O.Sink.held l.sink) _ l.waiting c.answer_waiting.new.waiting l.taken l.invariant.serving c.in-Ok.ensures.passed) more)
     below end
     (subst (λ (w : List ℕ). IsAnswered book (g.O.Sink.held c.answer_waiting.new.sink) (g.O.Sink.held c.answer_last.new.sink) w c.answer_last.result) c.bytes.ensures c.answer_last.ensures.answered)
     c.answer_last.ensures.no_limit
