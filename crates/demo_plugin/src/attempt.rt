@@ -1,10 +1,10 @@
-ghost use Rattle.std.specs.Prelude.{◌≡◌, ◌<◌, ◌≤◌, length, IfOk, IsTrue};
-ghost use Rattle.sp_model.specs.Sayable.{IsSayableReply, IsItem};
+ghost use Rattle.std.specs.Prelude.{◌≡◌, ◌≤◌, ◌+◌, length, IfOk, OnOk};
+ghost use Rattle.sp_model.specs.Sayable.{IsItem, IsSayableReply};
 ghost use Rattle.demo_plugin.specs.Sayable.{AreItems};
 
 use crate::matching::meets_all;
-use sp_model::{Call, Condition, Ending, Reply};
-use sp_value::{Cell, Cells, Memory, Text, TryCopy};
+use sp_model::{Call, Condition, Reply};
+use sp_value::{Cell, Cells, Memory, TryCopy};
 use sqlite_items::Items;
 use std::alloc::Global;
 use std::marker::Model;
@@ -18,8 +18,12 @@ pub(crate) struct Attempt {
 impl Model for Attempt {
     ghost use Rattle.sp_model.specs.declared.call.Reply.{Reply};
     ghost use Rattle.sp_model.specs.Sayable.{IsSayableReply};
+    ghost use Rattle.std.specs.Coded.{codes};
+    ghost use Rattle.sp_value.specs.contracts.cell.Cell as cells;
 
     ghost Value = { Reply };
+
+    ghost coded = { Prim.hlevel (codes, cells.the_row.coded) };
 
     ghost view = { λ a. a.reply };
 
@@ -49,7 +53,40 @@ impl Attempt {
     }
 }
 
+/// Adds an item.
+pub(crate) fn add_item(items: &mut Cells, item: Cell) -> Result<(), Memory>
+    requires items { AreItems items.old }
+    requires item { IsItem item }
+    ensures items { OnOk result (AreItems items.new) }
+    ensures one { OnOk result (length items.new ≤ length items.old + 1) }
+{
+    match items.push(item) {
+        Ok(()) => Ok(()),
+        Err(_) => Err(Memory),
+    }
+}
+
+/// Adds an item, if it meets each condition.
+fn keep(
+    alloc: Global,
+    kept: &mut Cells,
+    item: &Cell,
+    conditions: &[Condition],
+) -> Result<(), Memory>
+    requires items { AreItems kept.old }
+    requires item { IsItem item.now }
+    ensures items { OnOk result (AreItems kept.new) }
+    ensures one { OnOk result (length kept.new ≤ length kept.old + 1) }
+{
+    if !meets_all(item, conditions) {
+        return Ok(());
+    }
+    let copied = item.copy(alloc)?;
+    add_item(kept, copied)
+}
+
 /// The items that meet each condition, in their order.
+#[tactic(auto, using(crate::proofs::Items::item_at, crate::proofs::Items::items_none))]
 fn kept(alloc: Global, items: &[Cell], conditions: &[Condition]) -> Result<Cells, Memory>
     requires { AreItems items.now }
     ensures items { IfOk result AreItems }
@@ -57,12 +94,7 @@ fn kept(alloc: Global, items: &[Cell], conditions: &[Condition]) -> Result<Cells
 {
     let mut kept = Items::new(alloc);
     for item in items {
-        if meets_all(item, conditions) {
-            let copied = item.copy(alloc)?;
-            let Ok(()) = kept.push(copied) else {
-                return Err(Memory);
-            };
-        }
+        keep(alloc, &mut kept, item, conditions)?;
     }
     Ok(kept)
 }

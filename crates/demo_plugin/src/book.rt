@@ -1,5 +1,5 @@
-ghost use Rattle.std.specs.Prelude.{◌≡◌, IfOk};
-ghost use Rattle.sp_model.specs.Sayable.{IsSayableReply, IsSayableVersion};
+ghost use Rattle.std.specs.Prelude.{IfOk};
+ghost use Rattle.sp_model.specs.Sayable.{IsSayableReply};
 
 use crate::attempt::Attempt;
 use crate::declared::Declared;
@@ -59,6 +59,7 @@ impl Book {
 }
 
 /// A reply that is an error alone.
+#[tactic(auto, using(crate::proofs::Items::error_alone))]
 fn failed(alloc: Global, text: &str) -> Result<Reply, Memory>
     ensures { IfOk result IsSayableReply }
 {

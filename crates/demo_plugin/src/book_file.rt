@@ -1,14 +1,14 @@
-ghost use Rattle.std.specs.Prelude.{◌<◌, length, IfOk, IfSome};
+ghost use Rattle.std.specs.Prelude.{◌<◌, ◌^◌, length, IfOk, IfSome};
 ghost use Rattle.demo_plugin.specs.Sayable.{AreItems};
 
-use crate::attempt::Attempt;
+use crate::attempt::{Attempt, add_item};
 use crate::book::{Book, Entry};
 use crate::declared::Declared;
 use crate::fault::BookFault;
 use crate::version_at::VersionAt;
-use serde_json::{Map, Value};
+use serde_json::Value;
 use sp_model::{Ending, Reply};
-use sp_value::{Cells, Memory, Text};
+use sp_value::{Cells, Memory};
 use sp_world::{item_from, text_at};
 use sqlite_items::Items;
 use std::alloc::Global;
@@ -39,10 +39,12 @@ fn has_only(value: &Value, names: &[&str]) -> bool {
 }
 
 /// A natural number below 2^63.
-fn natural(value: &Value) -> Option<u64> {
-    match value.as_i64() {
-        Some(number) => u64::try_from(number).ok(),
-        None => None,
+fn natural(value: &Value) -> Option<u64>
+    ensures { IfSome result (λ n. n < 2 ^ 63) }
+{
+    match value.as_u64() {
+        Some(number) if number < 9_223_372_036_854_775_808 => Some(number),
+        _ => None,
     }
 }
 
@@ -71,6 +73,7 @@ fn versions_from(alloc: Global, values: &[Value]) -> Result<Items<VersionAt>, Bo
 }
 
 /// Items of a reply, or `None` where one is no item or they are too many.
+#[tactic(auto, using(crate::proofs::Items::items_none))]
 fn items_from(alloc: Global, values: &[Value]) -> Result<Option<Cells>, Memory>
     ensures items { IfOk result (λ o. IfSome o AreItems) }
     ensures fewer { IfOk result (λ o. IfSome o (λ items. length items < 1000000)) }
@@ -83,9 +86,7 @@ fn items_from(alloc: Global, values: &[Value]) -> Result<Option<Cells>, Memory>
         let Some(item) = item_from(alloc, value)? else {
             return Ok(None);
         };
-        let Ok(()) = items.push(item) else {
-            return Err(Memory);
-        };
+        add_item(&mut items, item)?;
     }
     Ok(Some(items))
 }

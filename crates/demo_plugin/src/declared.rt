@@ -14,13 +14,17 @@ pub(crate) struct Declared {
 }
 
 impl Model for Declared {
-    ghost use Rattle.serde_json.specs.Data.{Data};
+    ghost use Rattle.std.specs.Coded.{codes};
+    ghost use Rattle.serde_json.specs.contracts.value.Value as values;
+    ghost use Rattle.serde_json.specs.declared.value.Value as declared;
     ghost use Rattle.serde_json.specs.View as json;
     ghost use Rattle.sp_model.specs.Sayable.{IsSayableDeclaration};
 
-    ghost Value = { Data };
+    ghost Value = { declared.Value };
 
-    ghost view = { λ d. json.view d.value };
+    ghost coded = { Prim.hlevel (codes, values.the_row.coded) };
+
+    ghost view = { λ d. d.value };
 
     ghost invariant = { λ d. IsSayableDeclaration (json.view d.value) };
 }
@@ -28,7 +32,7 @@ impl Model for Declared {
 impl Declared {
     /// The declaration, if a line can say it.
     pub(crate) fn of(value: Value) -> Option<Declared>
-        ensures { IfSome result (λ d. d ≡ json.view value) }
+        ensures { IfSome result (λ d. d ≡ value) }
     {
         if !is_shallow_object(&value) || has_odd_number(&value) {
             return None;
@@ -37,7 +41,7 @@ impl Declared {
     }
 
     pub(crate) fn value(&self) -> &Value
-        ensures value { json.view result.now ≡ self.now }
+        ensures value { result.now ≡ self.now }
         ensures form { IsSayableDeclaration (json.view result.now) }
     {
         &self.value

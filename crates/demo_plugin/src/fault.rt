@@ -1,4 +1,3 @@
-use sp_value::Memory;
 use thiserror::Error;
 
 /// Why a text is no book. Entries and attempts count from 1.

@@ -9,17 +9,16 @@ mod declared;
 mod fault;
 mod matching;
 mod streams;
+#[cfg(test)]
+mod tests;
 mod version_at;
 
 use crate::book::Book;
 use crate::book_file::read_book;
 use crate::streams::{ReaderSource, WriterSink};
 use plugin_kit::{Served, serve};
-use sp_value::Memory;
-use std::alloc::Global;
-use std::env;
-use std::fs;
 use std::process::ExitCode;
+use std::{env, fs};
 
 /// The one argument.
 fn book_name(rt: &HostRuntime) -> Option<String> {

@@ -1,6 +1,6 @@
 use serde_json::{Map, Value};
 use sp_model::{Asked, Call, CallKey, Condition};
-use sp_value::{Cell, Memory, Text, TryCopy, Truth, compare};
+use sp_value::{Cell, Memory, Text, Truth, TryCopy, compare};
 use sp_world::{Request, read_json, request_line};
 use std::alloc::Global;
 
@@ -40,14 +40,18 @@ fn table_of<'a>(declaration: &'a Value, name: &str) -> Option<&'a Value> {
 fn function_name<'a>(declaration: &'a Value, call: &'a Call) -> Option<&'a str> {
     let function = match call {
         Call::List { table, .. } => {
-            table_of(declaration, table.as_str())?.get("list")?.get("function")?
+            table_of(declaration, table.as_str())?
+                .get("list")?
+                .get("function")?
         }
         Call::Parents { table } => table_of(declaration, table.as_str())?
             .get("list")?
             .get("parent")?
             .get("function")?,
         Call::Get { table, .. } => {
-            table_of(declaration, table.as_str())?.get("get")?.get("function")?
+            table_of(declaration, table.as_str())?
+                .get("get")?
+                .get("function")?
         }
         Call::Hydrate { function, .. } => return Some(function.as_str()),
     };
@@ -55,11 +59,7 @@ fn function_name<'a>(declaration: &'a Value, call: &'a Call) -> Option<&'a str> 
 }
 
 /// The function's name as a text, if there is one.
-fn function_of(
-    alloc: Global,
-    declaration: &Value,
-    call: &Call,
-) -> Result<Option<Text>, Memory> {
+fn function_of(alloc: Global, declaration: &Value, call: &Call) -> Result<Option<Text>, Memory> {
     match function_name(declaration, call) {
         Some(name) => Ok(Some(Text::from_str(alloc, name)?)),
         None => Ok(None),

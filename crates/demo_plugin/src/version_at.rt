@@ -1,9 +1,5 @@
-ghost use Rattle.std.specs.Prelude.{◌≡◌, ◌<◌, ◌^◌, IfOk};
-ghost use Rattle.sp_model.specs.Sayable.{IsSayableVersion};
+ghost use Rattle.std.specs.Prelude.{◌≡◌, ◌<◌, ◌^◌};
 
-use sp_model::Version;
-use sp_value::{Memory, Text};
-use std::alloc::Global;
 use std::marker::Model;
 
 /// A version that holds from a tick on. It is below 2^63.
