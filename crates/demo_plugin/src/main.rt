@@ -49,16 +49,33 @@ fn open_book(rt: HostRuntime, name: &str) -> Option<Book> {
     }
 }
 
-/// Why serving ended before the end of the input.
-fn cause(served: &Served) -> Option<&'static str> {
-    match served {
-        Served::End => None,
-        Served::ReadFault => Some("standard input can't be read"),
-        Served::WriteFault => Some("standard output can't be written"),
-        Served::BadLine { .. } => Some("a line is no request"),
-        Served::Limit => Some("the input has 2^62 bytes"),
-        Served::Memory => Some("out of memory"),
+/// A line as it is shown in a message.
+fn shown(line: &[u8]) -> &str {
+    if line.len() > 200 {
+        return "a line of more than 200 bytes";
     }
+    match str::from_utf8(line) {
+        Ok(text) => text,
+        Err(_) => "a line that is no UTF-8",
+    }
+}
+
+/// Says why serving ended before the end of the input, and gives the status.
+fn status(rt: HostRuntime, served: &Served) -> u8 {
+    let cause = match served {
+        Served::End => return 0,
+        Served::ReadFault => "standard input can't be read",
+        Served::WriteFault => "standard output can't be written",
+        Served::BadLine { line } => {
+            let line = shown(line.as_slice());
+            let _ = eprintln!(rt; "demo_plugin: no request: {line}");
+            return 1;
+        }
+        Served::Limit => "the input has 2^62 bytes",
+        Served::Memory => "out of memory",
+    };
+    let _ = eprintln!(rt; "demo_plugin: {cause}");
+    1
 }
 
 fn main(rt: HostRuntime) -> ExitCode {
@@ -72,11 +89,5 @@ fn main(rt: HostRuntime) -> ExitCode {
     let mut input = ReaderSource::new(rt.stdin());
     let mut output = WriterSink::new(rt.stdout());
     let served = serve(rt.alloc(), &mut input, &mut output, &book);
-    match cause(&served) {
-        None => ExitCode::from(0),
-        Some(cause) => {
-            let _ = eprintln!(rt; "demo_plugin: {cause}");
-            ExitCode::from(1)
-        }
-    }
+    ExitCode::from(status(rt, &served))
 }
