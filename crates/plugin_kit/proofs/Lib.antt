@@ -1,0 +1,5 @@
+mod Feeds
+mod Items
+mod Writing
+mod Lines
+mod Steps
