@@ -1,3 +1,4 @@
 pub mod Asking
 pub mod Kids
 pub mod Stages
+pub mod PlainScan

@@ -60,7 +60,7 @@ fn declaration_call(alloc: Global, id: u64, connection: &Text) -> Result<OpenCal
 }
 
 /// Asks for the declaration of a connection.
-pub(crate) fn ask_declaration<W: World, C: Child<W>>(
+pub fn ask_declaration<W: World, C: Child<W>>(
     alloc: Global,
     child: &mut C,
     id: u64,
@@ -95,7 +95,7 @@ fn version_call(alloc: Global, id: u64, connection: &Text, tick: u64) -> Result<
 }
 
 /// Asks for the version of a connection at a tick.
-pub(crate) fn ask_version<W: World, C: Child<W>>(
+pub fn ask_version<W: World, C: Child<W>>(
     alloc: Global,
     child: &mut C,
     id: u64,
@@ -204,7 +204,7 @@ fn fetch<W: World, C: Child<W>>(
 }
 
 /// Asks for the whole reply to a call.
-pub(crate) fn fetch_reply<W: World, C: Child<W>>(
+pub fn fetch_reply<W: World, C: Child<W>>(
     alloc: Global,
     child: &mut C,
     id: u64,

@@ -1,10 +1,14 @@
-//! One call at a time over a child: its declaration, a version, and the whole reply of a call.
+//! One call at a time over a child: its declaration, a version, and the whole reply of a call; and the rows of a plain list's reply.
 #![tactic(auto)]
 
 mod asking;
 mod fetching;
 mod kid;
+mod rows;
 mod stage;
 
+pub use asking::AskEnd;
+pub use fetching::{ask_declaration, ask_version, fetch_reply};
 pub use kid::Kid;
+pub use rows::{columns_named, plain_row, plain_rows};
 pub use stage::{CallEnd, Stage};

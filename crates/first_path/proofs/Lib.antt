@@ -1,6 +1,4 @@
 mod Ends
-mod Honest
-mod Pieces
 mod PlainTables
 mod Reading
 mod Scans

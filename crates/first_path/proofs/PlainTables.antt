@@ -3,12 +3,12 @@ use Rattle.std.proofs.Common.{◌≡◌, ℕ, List, [], ◌∷◌, Bool, true, f
 use Rattle.std.specs.List.{list_all}
 use Rattle.serde_json.specs.Data.{Data, Items, no_items, item}
 use Rattle.serde_json.specs.Find.{get, as_array}
-use Rattle.sp_model.specs.PlainList.{plain_table, has_no_function}
+use Rattle.sp_model.specs.PlainList.{has_no_function}
 use Rattle.sp_model.specs.declared.declaration.ColumnDecl.{ColumnDecl}
 use Rattle.sp_model.specs.declared.declaration.TableDecl.{TableDecl}
 use Rattle.sp_value.specs.declared.kind.Kind.{Kind}
 use Rattle.first_path.specs.Plain.{has_members, name_at, kind_at, is_distinct, list_function, column_from, column_of, cons_some, columns_of, checked_columns, columns_at, table_from, table_of, tables_in, checked_tables, plain_tables, find_table}
-use Rattle.first_path.specs.PlainScan.{IsPlain, ArePlain}
+use Rattle.first_path.specs.PlainScan.{plain_table, IsPlain, ArePlain}
 
 some_same : {T : Type 0} (x y : T) → Some x ≡ Some y → x ≡ y
 some_same x y e = cc

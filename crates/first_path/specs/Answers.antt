@@ -32,7 +32,7 @@ scan_end None = end.Memory
 -- the note of a fresh scan of all columns, whose version was asked at a tick
 abbrev pub version_note : List ℕ → TableDecl → ℕ → Version → ScanNote
 version_note connection table asked version = record {
-  request = plain_request connection table.name table.columns;
+  request = plain_request connection table.name (map (λ c. c.name) table.columns) None;
   asked = asked;
   at = asked;
   version = version;
@@ -46,7 +46,7 @@ fresh_note book connection table asked = version_note connection table asked (bo
 -- the walk of the table's list, at the version of the tick
 abbrev pub scanned : Book → List ℕ → TableDecl → ℕ → ℕ → Answer
 scanned book connection table began asked = record {
-  end = scan_end (scan_value book table (plain_request connection table.name table.columns) (book.version connection asked));
+  end = scan_end (scan_value book table (plain_request connection table.name (map (λ c. c.name) table.columns) None) (book.version connection asked));
   names = map (λ c. c.name) table.columns;
   kinds = map (λ c. c.kind) table.columns;
   notes = fresh_note book connection table asked ∷ [];

@@ -1,5 +1,4 @@
 pub mod Answers
-pub mod Asking
 pub mod FirstLine
 pub mod Plain
 pub mod PlainScan

@@ -7,7 +7,7 @@ use Rattle.serde_json.specs.Events.{members_len}
 use Rattle.sp_value.specs.declared.kind.Kind.{Kind}
 use Rattle.sp_value.specs.declared.kind.Kind.TheVariants as kind
 use Rattle.sp_model.specs.Names.{is_name}
-use Rattle.sp_model.specs.PlainList.{plain_table}
+use Rattle.first_path.specs.PlainScan.{plain_table}
 use Rattle.sp_model.specs.declared.declaration.ColumnDecl.{ColumnDecl}
 use Rattle.sp_model.specs.declared.declaration.TableDecl.{TableDecl}
 

@@ -1,23 +1,22 @@
--- What is known of a scan beside what is still to come.
-use Rattle.std.specs.Prelude.{◌≡◌, ℕ, true, List, [], ◌∷◌, ◌++◌}
+-- Tables of the plain form.
+use Rattle.std.specs.Prelude.{◌≡◌, ℕ, true, List, [], ◌∷◌, Some, None}
 use Rattle.std.specs.List.{list_all}
-use Rattle.sp_value.specs.declared.cell.Cell.{Cell}
-use Rattle.sp_model.specs.PlainList.{plain_table, has_no_function}
+use Rattle.sp_model.specs.PlainList.{has_no_function}
+use Rattle.sp_model.specs.declared.declaration.ColumnDecl.{ColumnDecl}
 use Rattle.sp_model.specs.declared.declaration.TableDecl.{TableDecl}
-use Rattle.sp_model.specs.declared.outcome.Row.{Row}
-use Rattle.sp_model.specs.declared.outcome.Row.TheVariants.{Whole, Broken}
-use Rattle.sp_model.specs.declared.outcome.ScanValue.{ScanValue}
-use Rattle.sp_model.specs.declared.outcome.ScanValue.TheVariants.{Rows, Failed}
 
--- cells, and then those of a row
-abbrev pub after_cells : List Cell → Row → Row
-after_cells cells (Whole more) = Whole (cells ++ more)
-after_cells cells (Broken column cause) = Broken column cause
-
--- rows, and then those of a scan
-abbrev pub after_rows : List (List Cell) → ScanValue → ScanValue
-after_rows rows (Rows more) = Rows (rows ++ more)
-after_rows rows (Failed row column cause) = Failed row column cause
+-- a table with a list and nothing else
+abbrev pub plain_table : List ℕ → List ColumnDecl → List ℕ → TableDecl
+plain_table name columns function = record {
+  name = name;
+  columns = columns;
+  list = Some (record { function = function; keys = []; parent = None; tags = []; ignore = None; retry = None });
+  get = None;
+  functions = [];
+  ignore = None;
+  retry = None;
+  plugin = record { ignore = None; retry = None };
+}
 
 -- a table of the plain form
 pub record IsPlain (table : TableDecl) : Type 0 where

@@ -2,11 +2,8 @@
 #![tactic(auto)]
 
 mod answer;
-mod asking;
-mod fetching;
 mod line;
 mod plain;
-mod plain_scan;
 mod scanning;
 mod statement;
 mod words;

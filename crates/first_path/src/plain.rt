@@ -3,8 +3,8 @@ ghost use Rattle.std.specs.List.{list_any};
 ghost use Rattle.serde_json.specs.Find.{get};
 ghost use Rattle.serde_json.specs.Events.{members_len};
 ghost use Rattle.serde_json.specs.View.{view, items_view, members_view};
-ghost use Rattle.sp_model.specs.PlainList.{plain_table};
 ghost use Rattle.first_path.specs.Plain.{has_members, name_at, kind_at, kind_of, column_of, columns_of, is_distinct, checked_columns, columns_at, list_function, table_of, tables_in, checked_tables, plain_tables, find_table};
+ghost use Rattle.first_path.specs.PlainScan.{plain_table};
 
 use serde_json::{Map, Value};
 use sp_model::{ColumnDecl, ListDecl, Rule, TableDecl, is_name};

@@ -5,13 +5,11 @@ ghost use Rattle.sp_model.specs.declared.call.Version.TheVariants.{Is};
 ghost use Rattle.sp_model.specs.declared.scan.Mark.TheVariants.{Fresh};
 ghost use Rattle.sp_outside.specs.Log.{pending};
 ghost use Rattle.first_path.specs.Answers.{scan_end, scanned, IsEnd, IsSpent, IsScan, IsHeading, version_note, IsAsDefined, IfSpent, plain_answer};
-ghost use Rattle.first_path.specs.Asking.{IsByFault, IsHonest, IsCaused, IfLost, IsSound};
+ghost use Rattle.child_calls.specs.Asking.{IsByFault, IsHonest, IsCaused, IfLost, IsSound};
 ghost use Rattle.first_path.specs.PlainScan.{IsPlain};
 
 use crate::answer::{Answer, AnswerEnd};
-use crate::asking::AskEnd;
-use crate::fetching::{ask_version, fetch_reply};
-use crate::plain_scan::plain_rows;
+use child_calls::{AskEnd, ask_version, fetch_reply, plain_rows};
 use sp_model::{
     Access, Call, CallKey, Cause, ColumnDecl, Mark, ScanNote, ScanNotes, ScanRequest, ScanValue,
     TableDecl, Version, plain_list_is_its_items,
@@ -77,7 +75,7 @@ fn scan_list<W: World, C: Child<W>>(
     requires version { version < 2 ^ 63 }
     requires plain { IsPlain table.now }
     requires none { IsTrue W.tells → pending (C.log child.old) ≡ [] }
-    ensures told { IsTrue W.tells → IfOk result (λ v. scan_value W.book table.now (plain_request connection.now table.now.name table.now.columns) (Is version) ≡ Some v) }
+    ensures told { IsTrue W.tells → IfOk result (λ v. scan_value W.book table.now (plain_request connection.now table.now.name (map (λ c. c.name) table.now.columns) None) (Is version) ≡ Some v) }
     ensures lost { IfLost result (λ loss. IsCaused loss (C.faulted child.new) (C.gives child.new) (C.last child.new)) }
     ensures honest { IsTrue W.tells → IsHonest W.book → IfLost result IsByFault }
 {
@@ -91,6 +89,7 @@ fn scan_list<W: World, C: Child<W>>(
         alloc,
         table.columns.as_slice(),
         &list.function,
+        None,
         reply.items.as_slice(),
         &reply.ending,
     )?;
@@ -124,7 +123,7 @@ fn scan_at<W: World, C: Child<W>>(
     requires sound { IsSound version }
     requires plain { IsPlain table.now }
     requires none { IsTrue W.tells → pending (C.log child.old) ≡ [] }
-    ensures told { IsTrue W.tells → IsEnd connection.now result (scan_end (scan_value W.book table.now (plain_request connection.now table.now.name table.now.columns) version)) }
+    ensures told { IsTrue W.tells → IsEnd connection.now result (scan_end (scan_value W.book table.now (plain_request connection.now table.now.name (map (λ c. c.name) table.now.columns) None) version)) }
     ensures scans { IsScan result }
     ensures spent { IfSpent result (λ loss. IsCaused loss (C.faulted child.new) (C.gives child.new) (C.last child.new)) }
     ensures honest { IsTrue W.tells → IsHonest W.book → IfSpent result IsByFault }
@@ -172,7 +171,7 @@ fn column_kinds(alloc: Global, columns: &[ColumnDecl]) -> Result<Kinds, Memory>
 }
 
 fn scan_request(alloc: Global, connection: &Text, table: &TableDecl) -> Result<ScanRequest, Memory>
-    ensures { IfOk result (λ r. r ≡ plain_request connection.now table.now.name table.now.columns) }
+    ensures { IfOk result (λ r. r ≡ plain_request connection.now table.now.name (map (λ c. c.name) table.now.columns) None) }
 {
     Ok(ScanRequest {
         connection: connection.copy(alloc)?,

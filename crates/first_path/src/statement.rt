@@ -4,13 +4,12 @@ ghost use Rattle.first_path.specs.Answers.{IsAnswer, IsTableAnswer, IsTextRefusa
 ghost use Rattle.first_path.specs.declared.answer.AnswerEnd.TheVariants as end;
 ghost use Rattle.first_path.specs.declared.answer.BlockFault.TheVariants as fault;
 ghost use Rattle.first_path.specs.PlainScan.{ArePlain};
-ghost use Rattle.first_path.specs.Asking.{IsByFault, IsHonest, IsCaused};
+ghost use Rattle.child_calls.specs.Asking.{IsByFault, IsHonest, IsCaused};
 ghost use Rattle.first_path.specs.FirstLine.{first_line};
 ghost use Rattle.first_path.specs.Plain.{plain_tables};
 
 use crate::answer::{Answer, AnswerEnd, BlockFault};
-use crate::asking::AskEnd;
-use crate::fetching::ask_declaration;
+use child_calls::{AskEnd, ask_declaration};
 use crate::line::first_line;
 use crate::plain::{find_table, plain_tables};
 use crate::scanning::{plain_answer, scan, spent};

@@ -26,11 +26,7 @@ fn place_in(used: &[u32], column: u32) -> Result<u32, Memory>
     Ok(place)
 }
 
-fn placed_operand(
-    alloc: Global,
-    used: &[u32],
-    operand: &BoundOperand,
-) -> Result<RowOperand, Memory>
+fn placed_operand(alloc: Global, used: &[u32], operand: &BoundOperand) -> Result<RowOperand, Memory>
     ensures { IfOk result (λ o. o ≡ placed_operand used.now operand.now) }
 {
     match operand {
@@ -63,11 +59,7 @@ fn placed_test(alloc: Global, used: &[u32], condition: &BoundExpr) -> Result<Row
 {
     match condition {
         BoundExpr::Or(members) => Ok(RowTest::Or(placed_tests(alloc, used, members.as_slice())?)),
-        BoundExpr::And(members) => Ok(RowTest::And(placed_tests(
-            alloc,
-            used,
-            members.as_slice(),
-        )?)),
+        BoundExpr::And(members) => Ok(RowTest::And(placed_tests(alloc, used, members.as_slice())?)),
         BoundExpr::Not(inner) => {
             let test = placed_test(alloc, used, inner.get())?;
             let Ok(test) = Boxed::new(alloc, test) else {

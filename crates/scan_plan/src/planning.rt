@@ -38,17 +38,18 @@ fn is_without_rule(rule: &Rule) -> bool
 fn has_plain_columns(table: &TableDecl) -> bool
     ensures { result ≡ list_all has_no_function table.now.columns }
 {
-    table.columns.as_slice().iter().all(|column| column.function.is_none())
+    table
+        .columns
+        .as_slice()
+        .iter()
+        .all(|column| column.function.is_none())
 }
 
 fn has_plain_functions(table: &TableDecl) -> bool
     ensures { result ≡ list_all has_no_rule table.now.functions }
 {
-    table
-        .functions
-        .as_slice()
-        .iter()
-        .all(|function| function.ignore.is_none() && function.retry.is_none())
+    table.functions.as_slice().iter().all(|function| function.ignore.is_none()
+        && function.retry.is_none())
 }
 
 /// Whether the rows of a table are the items of one call.

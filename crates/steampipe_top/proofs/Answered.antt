@@ -8,7 +8,7 @@ use Rattle.sp_model.specs.Book.{Book}
 use Rattle.sp_outside.specs.declared.log.Loss.{Loss}
 use Rattle.first_path.specs.Answers.{IsAnswer, IsByText, IfSpent}
 use Rattle.first_path.specs.FirstLine.{first_line}
-use Rattle.first_path.specs.Asking.{IsCaused, IsByFault}
+use Rattle.child_calls.specs.Asking.{IsCaused, IsByFault}
 use Rattle.first_path.specs.declared.answer.Answer.{Answer}
 use Rattle.first_path.specs.declared.answer.AnswerEnd.{AnswerEnd}
 use Rattle.first_path.specs.declared.answer.AnswerEnd.TheVariants as end

@@ -7,7 +7,7 @@ use Rattle.sp_outside.specs.Reading.{ReadsWhole}
 use Rattle.sp_outside.specs.Writing.{GrewByPrefix}
 use Rattle.sp_outside.specs.declared.log.Loss.{Loss}
 use Rattle.first_path.specs.Answers.{IsAnswer, IfSpent, IsByText, NeedsCall}
-use Rattle.first_path.specs.Asking.{IsCaused, IsByFault, IsHonest}
+use Rattle.child_calls.specs.Asking.{IsCaused, IsByFault, IsHonest}
 use Rattle.first_path.specs.FirstLine.{first_line}
 use Rattle.first_path.specs.Words.{words_of}
 use Rattle.first_path.specs.declared.answer.Answer.{Answer}

@@ -1,6 +1,6 @@
 use Rattle.std.proofs.Common.{IsTrue, [], ◌∷◌}
 use Rattle.first_path.specs.Answers.{NeedsCall}
-use Rattle.first_path.specs.Asking.{IsHonest}
+use Rattle.child_calls.specs.Asking.{IsHonest}
 use Rattle.first_path.specs.FirstLine.{first_line}
 use Rattle.steampipe_top.proofs.Answered.{if_answered, is_some, are_answers, are_by_text, lost_by}
 use Rattle.steampipe_top.proofs.top.run.Goals as goal

@@ -1,11 +1,12 @@
-ghost use Rattle.std.specs.Prelude.{◌≡◌, ◌+◌, ◌<◌, ◌^◌, IfOk, length};
+ghost use Rattle.std.specs.Prelude.{◌≡◌, ◌+◌, ◌<◌, ◌^◌, [], ◌∷◌, ◌++◌, IfOk, OnOk, length};
 ghost use Rattle.sp_model.specs.Fields.{field, is_of_kind};
-ghost use Rattle.sp_model.specs.RowOf.{checked};
-ghost use Rattle.first_path.specs.PlainScan.{after_rows};
+ghost use Rattle.sp_model.specs.RowOf.{checked, has_name, columns_named};
+ghost use Rattle.sp_model.specs.Walk.{is_reached};
+ghost use Rattle.child_calls.specs.PlainScan.{after_rows};
 ghost use Rattle.sp_model.specs.PlainList.{plain_row, plain_end, plain_rows};
 
 use sp_model::{Cause, ColumnDecl, Ending, Outcome, Row, ScanValue};
-use sp_value::{Cell, Kind, Memory, Rows, Text, TryCopy};
+use sp_value::{Cell, Cells, Kind, Memory, Rows, Text, TryCopy};
 use sqlite_items::Items;
 use std::alloc::Global;
 
@@ -54,7 +55,7 @@ fn column_value(alloc: Global, column: &ColumnDecl, item: &Cell) -> Result<Outco
 }
 
 /// The row of an item of a plain table: its cells, or the first column whose field is of another kind.
-pub(crate) fn plain_row(alloc: Global, columns: &[ColumnDecl], item: &Cell) -> Result<Row, Memory>
+pub fn plain_row(alloc: Global, columns: &[ColumnDecl], item: &Cell) -> Result<Row, Memory>
     ensures { IfOk result (λ r. r ≡ plain_row columns.now item.now) }
 {
     let mut cells = Items::new(alloc);
@@ -100,26 +101,42 @@ fn ended(
     }
 }
 
-/// The scan of a plain table by its list's items and ending: the rows of the items in order, or the first failure, with the row's number from 1 and the column.
-pub(crate) fn plain_rows(
+fn is_reached(limit: Option<u64>, count: u64) -> bool
+    ensures { result ≡ is_reached limit count }
+{
+    match limit {
+        None => false,
+        Some(limit) => limit <= count,
+    }
+}
+
+fn push_row(rows: &mut Rows, cells: Cells) -> Result<(), Memory>
+    ensures { OnOk result (rows.new ≡ rows.old ++ cells ∷ []) }
+{
+    let Ok(()) = rows.push(cells) else {
+        return Err(Memory);
+    };
+    Ok(())
+}
+
+/// The scan of a plain table by its list's items and ending: the rows of the items in order up to the limit, or the first failure,
+/// with the row's number from 1 and the column.
+pub fn plain_rows(
     alloc: Global,
     columns: &[ColumnDecl],
     function: &Text,
+    limit: Option<u64>,
     items: &[Cell],
     ending: &Ending,
 ) -> Result<ScanValue, Memory>
-    ensures { IfOk result (λ v. v ≡ plain_rows columns.now function.now 0 items.now ending.now) }
+    ensures { IfOk result (λ v. v ≡ plain_rows columns.now function.now limit 0 items.now ending.now) }
 {
     let mut rows = Rows::new(alloc);
     let mut before: u64 = 0;
     for item in items {
         let number = before + 1;
         match plain_row(alloc, columns, item)? {
-            Row::Whole(cells) => {
-                let Ok(()) = rows.push(cells) else {
-                    return Err(Memory);
-                };
-            }
+            Row::Whole(cells) => push_row(&mut rows, cells)?,
             Row::Broken { column, cause } => {
                 return Ok(ScanValue::Failed {
                     row: number,
@@ -128,8 +145,36 @@ pub(crate) fn plain_rows(
                 });
             }
         }
+        if is_reached(limit, number) {
+            return Ok(ScanValue::Rows(rows));
+        }
         before = number;
     }
     let value = ended(alloc, rows, function, before + 1, ending)?;
     Ok(value)
+}
+
+fn has_name(names: &[Text], name: &Text) -> bool
+    ensures { result ≡ has_name names.now name.now }
+{
+    names.iter().any(|n| *n == *name)
+}
+
+/// The columns of these names, in the order of the table.
+pub fn columns_named(
+    alloc: Global,
+    names: &[Text],
+    columns: &[ColumnDecl],
+) -> Result<Items<ColumnDecl>, Memory>
+    ensures { IfOk result (λ found. found ≡ columns_named names.now columns.now) }
+{
+    let mut found = Items::new(alloc);
+    for column in columns {
+        if has_name(names, &column.name) {
+            let Ok(()) = found.push(column.copy(alloc)?) else {
+                return Err(Memory);
+            };
+        }
+    }
+    Ok(found)
 }
