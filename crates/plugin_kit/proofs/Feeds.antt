@@ -1,5 +1,5 @@
 -- Where the first line feed stands, and what reading more does to the bytes that wait.
-use Rattle.std.proofs.Common.{◌≡◌, ℕ, zero, suc, ◌+◌, ◌≤◌, Bool, true, false, not, cond, List, [], ◌∷◌, ◌++◌, length, drop, Option, None, Some, position, sym, ◌∙◌, ap, subst, append-nil, append_assoc, length-drop, arith}
+use Rattle.std.proofs.Common.{◌≡◌, ℕ, zero, suc, ◌+◌, ◌≤◌, Bool, true, false, not, cond, List, [], ◌∷◌, ◌++◌, length, drop, None, Some, position, length-drop, arith}
 use Rattle.std.specs.List.{position_or_len}
 use Rattle.plugin_kit.specs.Lines.{is_feed}
 

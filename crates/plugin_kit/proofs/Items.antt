@@ -1,5 +1,5 @@
 -- The lines of items, one after another.
-use Rattle.std.proofs.Common.{◌≡◌, ℕ, zero, suc, ◌<◌, List, [], ◌∷◌, ◌++◌, length, take, drop, get_or, refl, sym, ap, ◌∙◌, append_assoc, append-nil, arith}
+use Rattle.std.proofs.Common.{◌≡◌, ℕ, zero, suc, ◌<◌, List, [], ◌∷◌, ◌++◌, length, take, drop, get_or, sym, ap, ◌∙◌, append_assoc, append-nil, arith}
 use Rattle.sp_value.specs.declared.cell.Cell.{Cell}
 use Rattle.sp_world.specs.ReplyLines.{Item}
 use Rattle.plugin_kit.specs.Replies.{line_text, items_text}

@@ -1,15 +1,15 @@
 -- Serving step by step.
-use Rattle.std.proofs.Common.{◌≡◌, ◌≢◌, ◌==◌, ◌^◌, ℕ, Bool, false, suc, ◌+◌, ◌≤◌, ◌<◌, List, [], ◌∷◌, ◌++◌, length, take, drop, position, Option, Some, None, Result, Ok, Err, refl, sym, ◌∙◌, ap, subst, append-nil, append_assoc, length-append, arith}
+use Rattle.std.proofs.Common.{◌≡◌, ◌≢◌, ◌==◌, ◌^◌, ℕ, Bool, false, suc, ◌+◌, ◌≤◌, ◌<◌, List, [], ◌∷◌, ◌++◌, length, take, drop, position, Option, Some, None, refl, sym, ◌∙◌, ap, subst, append-nil, append_assoc, length-append, arith}
 use Rattle.std.proofs.lemmas.List.{take-append-le}
-use Rattle.std.specs.Prelude.{IfSome, IfErr}
-use Rattle.std.specs.Io.KnownBytes.{Appends, Consumes, Keeps, IsAtEnd}
+use Rattle.std.specs.Prelude.{IfSome}
+use Rattle.std.specs.Io.KnownBytes.{Appends, Keeps, IsAtEnd}
 use Rattle.std.proofs.KnownBytes.{Appends-nil, Appends-trans, Consumes-nil, Consumes-trans, Consumes-kept}
 use Rattle.sp_model.specs.Book.{Book}
 use Rattle.sp_world.specs.declared.line.Request.{Request}
 use Rattle.sp_outside.specs.Writing.{GrewByPrefix}
 use Rattle.plugin_kit.specs.Lines.{is_feed, lines_of, requests_of, first_bad, request_in, kept, and_then, bad_or}
 use Rattle.plugin_kit.specs.Replies.{answer_to, answers_to, Answered, AnsweredInPart}
-use Rattle.plugin_kit.specs.Serving.{IsAnswered, IsTaken, IsServed, known, input_of}
+use Rattle.plugin_kit.specs.Serving.{IsAnswered, IsTaken, IsServed, known}
 use Rattle.plugin_kit.specs.Steps.{bad_line, served_of, HasNoFeed, IsLineAnswered, IsLineBad, StopsAtLine, HasPassed, StopsWithin, IsBadAfter, IsServing, ReadsMore, ReadsNoMore}
 use Rattle.plugin_kit.specs.declared.stop.Stop.{Stop}
 use Rattle.plugin_kit.specs.declared.stop.Stop.TheVariants.{BadLine, WriteFault, Memory}
@@ -17,7 +17,7 @@ use Rattle.plugin_kit.specs.declared.served.Served.{Served}
 use Rattle.plugin_kit.specs.declared.served.Served.TheVariants as served
 use Rattle.plugin_kit.proofs.Feeds.{first, first_within, first-append}
 use Rattle.plugin_kit.proofs.Lines.{line_before, line_goes_on, line_at_end, GoesOn}
-use Rattle.plugin_kit.proofs.Writing.{begun_nil, begun_after, begun_whole}
+use Rattle.plugin_kit.proofs.Writing.{begun_nil, begun_after}
 
 -- ---- answers to several requests
 

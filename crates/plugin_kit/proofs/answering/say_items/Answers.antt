@@ -1,4 +1,4 @@
-use Rattle.std.proofs.Common.{◌≡◌, ◌++◌, ◌+◌, suc, take, drop, length, subst, sym, ap, ◌∙◌, add-one, arith}
+use Rattle.std.proofs.Common.{suc, take, drop, subst, sym, ap, ◌∙◌, add-one, arith}
 use Rattle.std.specs.Prelude.{Result, Ok, Err, OnErr}
 use Rattle.std.specs.Io.KnownBytes.{Appends}
 use Rattle.std.proofs.KnownBytes.{Appends-trans}

@@ -1,4 +1,4 @@
-use Rattle.std.proofs.Common.{◌≡◌, take, ap, ◌∙◌}
+use Rattle.std.proofs.Common.{take, ap, ◌∙◌}
 use Rattle.std.proofs.lemmas.List.{take_min}
 use Rattle.plugin_kit.specs.Lines.{kept}
 use Rattle.plugin_kit.proofs.line_answer.bad_line.Goals as goal

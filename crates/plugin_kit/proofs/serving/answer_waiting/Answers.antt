@@ -1,4 +1,4 @@
-use Rattle.std.proofs.Common.{◌≡◌, ◌<◌, take, length, subst, sym, ap, arith}
+use Rattle.std.proofs.Common.{◌≡◌, ◌<◌, take, length, subst}
 use Rattle.std.specs.Prelude.{List, ℕ, IfSome}
 use Rattle.plugin_kit.specs.Lines.{kept}
 use Rattle.plugin_kit.specs.Steps.{StopsAtLine, bad_line}
