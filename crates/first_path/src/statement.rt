@@ -9,11 +9,11 @@ ghost use Rattle.first_path.specs.FirstLine.{first_line};
 ghost use Rattle.first_path.specs.Plain.{plain_tables};
 
 use crate::answer::{Answer, AnswerEnd, BlockFault};
-use child_calls::{AskEnd, ask_declaration};
 use crate::line::first_line;
 use crate::plain::{find_table, plain_tables};
 use crate::scanning::{plain_answer, scan, spent};
 use crate::words::QueryWords;
+use child_calls::{AskEnd, ask_declaration};
 use sp_model::{Connection, TableDecl};
 use sp_outside::{Child, Clock, ClockPass, Loss, Nursery};
 use sp_value::{Memory, Text, TryCopy, copy_texts};

@@ -176,9 +176,9 @@ source_is : (table : TableDecl) (list : ListDecl) → is_plain table ≡ true �
 source_is table list h found =
     let plain = subst (λ l. is_plain_list l ≡ true) found (parts_list table h) in
     let ignore = ap (λ o. or_else o (or_else table.ignore table.plugin.ignore)) (without list.ignore (of_list_ignore list plain))
-        ∙ ap (λ o. or_else o table.plugin.ignore) (without table.ignore (parts_ignore table h)) ∙ without table.plugin.ignore (parts_plugin_ignore table h) in
+    ∙ ap (λ o. or_else o table.plugin.ignore) (without table.ignore (parts_ignore table h)) ∙ without table.plugin.ignore (parts_plugin_ignore table h) in
     let retry = ap (λ o. or_else o (or_else table.retry table.plugin.retry)) (without list.retry (of_list_retry list plain))
-        ∙ ap (λ o. or_else o table.plugin.retry) (without table.retry (parts_retry table h)) ∙ without table.plugin.retry (parts_plugin_retry table h) in
+    ∙ ap (λ o. or_else o table.plugin.retry) (without table.retry (parts_retry table h)) ∙ without table.plugin.retry (parts_plugin_retry table h) in
     ap (list_source table) found
     ∙ ap (λ i. record { function = list.function; rule = record { ignore = i; retry = or_else list.retry (or_else table.retry table.plugin.retry) }; single = false }) ignore
     ∙ ap (λ r. record { function = list.function; rule = record { ignore = None; retry = r }; single = false }) retry
