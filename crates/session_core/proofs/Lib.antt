@@ -1,0 +1,4 @@
+mod Ends
+mod NameLaws
+mod ReadAnswers
+mod StageLaws

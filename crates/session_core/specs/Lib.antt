@@ -1,0 +1,3 @@
+pub mod Answers
+pub mod Lost
+pub mod Scans
