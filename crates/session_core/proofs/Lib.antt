@@ -1,4 +1,4 @@
 mod Ends
 mod NameLaws
 mod ReadAnswers
-mod StageLaws
+pub mod StageLaws
