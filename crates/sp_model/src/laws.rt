@@ -2,7 +2,7 @@
 ghost use Rattle.sp_model.specs.Laws.{CallHasAtMostItsAttempts, WholeCallIsSettled, IgnoredErrorKeepsItems, HydrationNeedsItsDependencies};
 ghost use Rattle.sp_model.specs.PlainList.{PlainListIsItsItems};
 
-/// The scan of a plain table, without rules, parents, conditions and limit, is its items in order.
+/// The scan of a plain table, without conditions, is its items in order, up to the limit.
 pub fn plain_list_is_its_items()
     ensures { PlainListIsItsItems }
 {}
