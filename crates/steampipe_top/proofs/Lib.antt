@@ -1,3 +1,5 @@
 mod Answered
+mod Endings
 mod Fields
+mod Growing
 mod Texts

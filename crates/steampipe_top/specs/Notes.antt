@@ -12,7 +12,11 @@ use Rattle.sp_model.specs.declared.scan.Mark.{Mark}
 use Rattle.sp_model.specs.declared.scan.Mark.TheVariants.{Fresh, Cached}
 use Rattle.sp_model.specs.declared.scan.ScanNote.{ScanNote}
 use Rattle.sp_world.specs.RequestLines.{conditions_data}
-use Rattle.first_path.specs.declared.answer.Answer.{Answer}
+use Rattle.run_lines.specs.declared.block.Block.{Block}
+use Rattle.session_core.specs.declared.answer.Answer.{Answer}
+use Rattle.session_core.specs.declared.answer.AnswerEnd.{AnswerEnd}
+use Rattle.session_core.specs.declared.answer.AnswerEnd.TheVariants as end
+use Rattle.session_core.specs.declared.answer.BlockFault.TheVariants as fault
 use Rattle.steampipe_top.specs.declared.note_text.NotePlace.{NotePlace}
 
 abbrev pub natural : ℕ → Data
@@ -69,14 +73,22 @@ abbrev pub scan_lines : ℕ → ℕ → ℕ → List ScanNote → List ℕ
 scan_lines block session counted [] = []
 scan_lines block session counted (note ∷ notes) = note_line (record { block = block; session = session; scan = counted + 1 }) note ++ scan_lines block session (counted + 1) notes
 
--- the notes of a block: when it began, and then its scans
-abbrev pub block_notes : ℕ → ℕ → Answer → List ℕ
-block_notes block session answer = began_line block session answer.began ++ scan_lines block session 0 answer.notes
+-- the notes of an answer: when it began, and then its scans
+abbrev pub answer_notes : ℕ → ℕ → Answer → List ℕ
+answer_notes block session answer = began_line block session answer.began ++ scan_lines block session 0 answer.notes
 
--- the notes of blocks of the first session, counted on from those that were counted
-abbrev pub notes_from : ℕ → List Answer → List ℕ
+-- a line of bad form has no notes
+abbrev pub noted : AnswerEnd → List ℕ → List ℕ
+noted (end.Refused fault.LineForm) text = []
+noted _ text = text
+
+abbrev pub block_notes : ℕ → Block → List ℕ
+block_notes n b = noted b.answer.end (answer_notes n b.session b.answer)
+
+-- the notes of blocks, counted on from those that were counted
+abbrev pub notes_from : ℕ → List Block → List ℕ
 notes_from counted [] = []
-notes_from counted (answer ∷ answers) = block_notes (counted + 1) 1 answer ++ notes_from (counted + 1) answers
+notes_from counted (b ∷ bs) = block_notes (counted + 1) b ++ notes_from (counted + 1) bs
 
-abbrev pub notes_text : List Answer → List ℕ
-notes_text answers = notes_from 0 answers
+abbrev pub notes_text : List Block → List ℕ
+notes_text blocks = notes_from 0 blocks

@@ -1,5 +1,5 @@
 -- How a cell is spelled in an answer.
-use Rattle.std.specs.Prelude.{ℕ, Bool, true, false, List, [], ◌∷◌, codes}
+use Rattle.std.specs.Prelude.{ℕ, Bool, true, false, List, [], codes}
 use Rattle.std.specs.Fmt.{signed_decimal}
 use Rattle.serde_json.specs.Written.{compact_text}
 use Rattle.sp_value.specs.Json.{data_of}

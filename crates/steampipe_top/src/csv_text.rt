@@ -1,12 +1,14 @@
 ghost use Rattle.std.specs.Prelude.{◌≡◌, IfOk, OnOk};
 ghost use Rattle.csv.specs.Records.{fields_of};
-ghost use Rattle.csv.specs.Writing.{default_writer, row_text};
-ghost use Rattle.steampipe_top.specs.Csv.{fields_of_row, rows_text, csv_text};
+ghost use Rattle.csv.specs.Writing.{text_written};
+ghost use Rattle.std.specs.Io.KnownBytes.{Appends};
+ghost use Rattle.steampipe_top.specs.Csv.{fields_of_row, record_text, rows_text, csv_text, IsBetweenRecords};
 
 use crate::spelled::spelled;
-use csv::{ByteRecord, WriterBuilder};
+use csv::{ByteRecord, Writer, WriterBuilder};
 use sp_value::{Cell, Cells, Kind, Memory, Text};
 use std::alloc::Global;
+use std::io::Write;
 
 fn row_fields(alloc: Global, kinds: &[Kind], row: &[Cell]) -> Result<ByteRecord, Memory>
     ensures { IfOk result (λ r. fields_of r ≡ fields_of_row kinds.now row.now) }
@@ -38,18 +40,38 @@ fn name_fields(alloc: Global, names: &[Text]) -> Result<ByteRecord, Memory>
     Ok(fields)
 }
 
-/// The text of one record.
-fn record_text(alloc: Global, fields: &ByteRecord) -> Result<Vec<u8>, Memory>
-    ensures { IfOk result (λ v. v.items ≡ row_text default_writer (fields_of fields.now)) }
+/// Writes one record.
+fn write_record<W: Write + Drop>(writer: &mut Writer<W>, fields: &ByteRecord) -> Result<(), Memory>
+    requires { IsBetweenRecords writer.old }
+    ensures text { OnOk result (Appends (text_written W.contents writer.old) (text_written W.contents writer.new) (record_text (fields_of fields.now))) }
+    ensures between { OnOk result (IsBetweenRecords writer.new) }
 {
-    let mut writer = WriterBuilder::new().from_writer(Vec::new(alloc));
-    let Ok(()) = writer.write_byte_record(fields) else {
-        return Err(Memory);
-    };
-    match writer.into_inner() {
-        Ok(text) => Ok(text),
+    match writer.write_byte_record(fields) {
+        Ok(()) => Ok(()),
         Err(_) => Err(Memory),
     }
+}
+
+/// Writes a record for each row.
+fn write_rows<W: Write + Drop>(
+    alloc: Global,
+    writer: &mut Writer<W>,
+    kinds: &[Kind],
+    rows: &[Cells],
+) -> Result<(), Memory>
+    requires { IsBetweenRecords writer.old }
+    ensures { OnOk result (Appends (text_written W.contents writer.old) (text_written W.contents writer.new) (rows_text kinds.now rows.now)) }
+{
+    for row in rows {
+        let fields = match row_fields(alloc, kinds, row.as_slice()) {
+            Ok(fields) => fields,
+            Err(Memory) => return Err(Memory),
+        };
+        if let Err(Memory) = write_record::<W>(writer, &fields) {
+            return Err(Memory);
+        }
+    }
+    Ok(())
 }
 
 /// The csv of a header and rows, each row with a cell for each kind.
@@ -62,13 +84,13 @@ pub(crate) fn csv_text(
     ensures { IfOk result (λ v. v.items ≡ csv_text names.now kinds.now rows.now) }
 {
     let header = name_fields(alloc, names)?;
-    let mut text = record_text(alloc, &header)?;
-    for row in rows {
-        let fields = row_fields(alloc, kinds, row.as_slice())?;
-        let line = record_text(alloc, &fields)?;
-        let Ok(()) = text.extend_from_slice(&line) else {
-            return Err(Memory);
-        };
+    let mut writer = WriterBuilder::new()
+        .flexible(true)
+        .from_writer(Vec::new(alloc));
+    write_record(&mut writer, &header)?;
+    write_rows(alloc, &mut writer, kinds, rows)?;
+    match writer.into_inner() {
+        Ok(text) => Ok(text),
+        Err(_) => Err(Memory),
     }
-    Ok(text)
 }

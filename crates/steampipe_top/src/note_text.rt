@@ -1,10 +1,11 @@
 ghost use Rattle.std.specs.Prelude.{◌≡◌, IfOk, false};
 ghost use Rattle.serde_json.specs.View.{view};
 ghost use Rattle.serde_json.specs.Written.{has_float};
-ghost use Rattle.steampipe_top.specs.Notes.{natural, access_word, mark_word, version_data, limit_data, texts_data, note_members, note_data, began_data, json_line, began_line, note_line, block_notes};
+ghost use Rattle.steampipe_top.specs.Notes.{natural, access_word, mark_word, version_data, limit_data, texts_data, note_members, note_data, began_data, json_line, began_line, note_line, answer_notes, block_notes};
 
-use first_path::Answer;
+use run_lines::Block;
 use serde_json::{Value, json};
+use session_core::{Answer, AnswerEnd, BlockFault};
 use sp_model::{Access, Mark, ScanNote, Version};
 use sp_value::{Memory, Text};
 use sp_world::{conditions_json, made, spell, text_json};
@@ -142,14 +143,9 @@ fn began_line(alloc: Global, block: u64, session: u64, began: u64) -> Result<Vec
     Ok(line)
 }
 
-/// The notes of a block: the line that says when it began, and a line for each of its scans.
-pub(crate) fn block_notes(
-    alloc: Global,
-    block: u64,
-    session: u64,
-    answer: &Answer,
-) -> Result<Vec<u8>, Memory>
-    ensures { IfOk result (λ v. v.items ≡ block_notes block session answer.now) }
+/// The notes of an answer: the line that says when it began, and a line for each of its scans.
+fn answer_notes(alloc: Global, block: u64, session: u64, answer: &Answer) -> Result<Vec<u8>, Memory>
+    ensures { IfOk result (λ v. v.items ≡ answer_notes block session answer.now) }
 {
     let mut text = began_line(alloc, block, session, answer.began)?;
     let mut scan: u64 = 0;
@@ -169,4 +165,15 @@ pub(crate) fn block_notes(
         };
     }
     Ok(text)
+}
+
+/// The notes of a block of a number. A line of bad form has none.
+pub(crate) fn block_notes(alloc: Global, number: u64, block: &Block) -> Result<Vec<u8>, Memory>
+    ensures { IfOk result (λ v. v.items ≡ block_notes number block.now) }
+{
+    if let AnswerEnd::Refused(BlockFault::LineForm) = block.answer.end {
+        Ok(Vec::new(alloc))
+    } else {
+        answer_notes(alloc, number, u64::from(block.session), &block.answer)
+    }
 }

@@ -6,6 +6,13 @@ use sp_value::Memory;
 use sp_world::Untold;
 use std::alloc::Global;
 
+/// The lines that the child of a connection gives.
+#[derive(Clone, Copy)]
+pub(crate) struct Script {
+    pub(crate) connection: &'static str,
+    pub(crate) lines: &'static [&'static [u8]],
+}
+
 /// A child that gives the lines of a script in order, whatever it hears, and then fails.
 #[derive(Drop)]
 pub(crate) struct ScriptedChild {
@@ -93,10 +100,20 @@ impl Child<Untold> for ScriptedChild {
     }
 }
 
-/// Makes children that all give the lines of one script.
+/// The lines of the first script of a connection, none where there is no script of it.
+fn lines_of(scripts: &'static [Script], connection: &str) -> &'static [&'static [u8]] {
+    for script in scripts {
+        if script.connection == connection {
+            return script.lines;
+        }
+    }
+    &[]
+}
+
+/// Makes children that give the lines of their connections' scripts.
 #[derive(Drop)]
 pub(crate) struct ScriptedNursery {
-    script: &'static [&'static [u8]],
+    scripts: &'static [Script],
     made: usize,
     pub(crate) back: Vec<ScriptedChild>,
     ghost counted: { vec_len back ≤ made },
@@ -104,12 +121,12 @@ pub(crate) struct ScriptedNursery {
 }
 
 impl ScriptedNursery {
-    pub(crate) fn new(alloc: Global, script: &'static [&'static [u8]]) -> ScriptedNursery
+    pub(crate) fn new(alloc: Global, scripts: &'static [Script]) -> ScriptedNursery
         ensures made { result.made ≡ 0 }
         ensures back { result.back.items ≡ [] }
     {
         ScriptedNursery {
-            script,
+            scripts,
             made: 0,
             back: Vec::new(alloc),
         }
@@ -123,7 +140,7 @@ impl Nursery<Untold> for ScriptedNursery {
 
     ghost back = { λ n. n.back.items };
 
-    fn make(&mut self, alloc: Global, _connection: &Connection) -> Result<ScriptedChild, Memory> {
+    fn make(&mut self, alloc: Global, connection: &Connection) -> Result<ScriptedChild, Memory> {
         if self.made == usize::MAX {
             return Err(Memory);
         }
@@ -133,7 +150,7 @@ impl Nursery<Untold> for ScriptedNursery {
         self.made += 1;
         Ok(ScriptedChild {
             alloc,
-            script: self.script,
+            script: lines_of(self.scripts, connection.name.as_str()),
             next: 0,
             heard: Vec::new(alloc),
             last: Vec::new(alloc),

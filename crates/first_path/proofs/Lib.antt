@@ -1,6 +1,0 @@
-mod Ends
-mod PlainTables
-mod Reading
-mod Scans
-mod Sizes
-mod Started

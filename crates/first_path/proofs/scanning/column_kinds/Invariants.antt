@@ -1,6 +1,0 @@
--- The columns so far.
-use Rattle.std.proofs.Common.{◌≡◌, map, take}
-use Rattle.first_path.proofs.scanning.column_kinds.Given as goal
-
-abbrev pub invariant-loop-column : goal.invariant-loop-column
-invariant-loop-column l = l.kinds ≡ map (λ c. c.kind) (take l.column-index l.columns)

@@ -1,6 +1,0 @@
--- The columns so far.
-use Rattle.std.proofs.Common.{◌≡◌, map, take}
-use Rattle.first_path.proofs.scanning.column_names.Given as goal
-
-abbrev pub invariant-loop-column : goal.invariant-loop-column
-invariant-loop-column l = l.names ≡ map (λ c. c.name) (take l.column-index l.columns)
