@@ -1,6 +1,8 @@
 //! Both ends of the lines between a child and its caller: requests written and read, reply lines written and read.
 #![tactic(auto)]
 
+#[cfg(test)]
+mod page_tests;
 mod reading;
 #[cfg(test)]
 mod tests;

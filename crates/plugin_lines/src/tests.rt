@@ -154,9 +154,9 @@ fn no_other_object_is_a_reply_line(rt: HostRuntime) {
     );
 }
 
-/// An item line whose item nests so deep.
-fn nested(alloc: Global, depth: u32) -> Result<String, Fail> {
-    let mut text = String::from_str(alloc, "{\"id\":1,\"item\":")?;
+/// A text with an object that nests so deep in its middle.
+fn with_nested(alloc: Global, before: &str, depth: u32, after: &str) -> Result<String, Fail> {
+    let mut text = String::from_str(alloc, before)?;
     for _ in 1..depth {
         text.push_str("{\"a\":")?;
     }
@@ -164,12 +164,13 @@ fn nested(alloc: Global, depth: u32) -> Result<String, Fail> {
     for _ in 0..depth {
         text.push_str("}")?;
     }
-    text.push_str("}")?;
+    text.push_str(after)?;
     Ok(text)
 }
 
 #[test]
 fn an_item_nests_at_most_a_hundred_deep(rt: HostRuntime) -> Result<(), Fail> {
+    let alloc = rt.alloc();
     for (depth, want) in [
         (1, "none"),
         (100, "none"),
@@ -177,8 +178,19 @@ fn an_item_nests_at_most_a_hundred_deep(rt: HostRuntime) -> Result<(), Fail> {
         (126, "shape"),
         (127, "json"),
     ] {
-        let text = nested(rt.alloc(), depth)?;
-        assert_eq!(rt; line_fault(rt.alloc(), text.as_bytes()), want, "at {depth}");
+        let line = with_nested(alloc, "{\"id\":1,\"item\":", depth, "}")?;
+        assert_eq!(rt; line_fault(alloc, line.as_bytes()), want, "at {depth}");
+        let request = with_nested(
+            alloc,
+            r#"{"attempt":1,"connection":"c","function":"f","id":3,"item":"#,
+            depth,
+            r#","op":"hydrate","results":{},"table":"t","version":7}"#,
+        )?;
+        assert_eq!(rt;
+            request_fault(alloc, request.as_bytes()),
+            want,
+            "at {depth}"
+        );
     }
     Ok(())
 }
