@@ -1,4 +1,3 @@
-use crate::book::Book;
 use crate::book_file::read_book;
 use plugin_kit::{Served, serve};
 use sp_outside::{MemorySink, MemorySource};
@@ -16,18 +15,32 @@ const BOOK: &str = r#"{
 {"call":{"op":"get"},"attempts":[{"items":[],"error":"never"}]}
 ]}"#;
 
-fn book(alloc: Global) -> Result<Book, Fail> {
-    let book = read_book(alloc, BOOK)?;
-    Ok(book)
-}
-
-fn is_answered(alloc: Global, input: &str, output: &str) -> Result<bool, Fail> {
-    let book = book(alloc)?;
+/// Serves an input over a book: how it ended, and what was written.
+fn serve_input(alloc: Global, book: &str, input: &str) -> Result<(Served, MemorySink), Fail> {
+    let book = read_book(alloc, book)?;
     let bytes = Vec::from_slice(alloc, input.as_bytes())?;
     let mut from = MemorySource::new(bytes, Items::new(alloc));
     let mut to = MemorySink::new(alloc, 1000, Items::new(alloc));
     let served = serve(alloc, &mut from, &mut to, &book);
+    Ok((served, to))
+}
+
+fn is_answered(alloc: Global, input: &str, output: &str) -> Result<bool, Fail> {
+    let (served, to) = serve_input(alloc, BOOK, input)?;
     Ok(matches!(served, Served::End) && to.held() == output.as_bytes())
+}
+
+#[test]
+fn a_line_that_is_no_request_ends_the_serving(rt: HostRuntime) -> Result<(), Fail> {
+    let book = r#"{"declaration":{"tables":[]},"replies":[],"versions":[[0,7]]}"#;
+    let asked = "{\"connection\":\"c\",\"id\":1,\"op\":\"version\",\"tick\":0}\n";
+    let (served, to) = serve_input(rt.alloc(), book, asked)?;
+    assert!(rt; to.held() == b"{\"id\":1,\"version\":7}\n".as_slice());
+    assert!(rt; matches!(served, Served::End));
+    let (served, to) = serve_input(rt.alloc(), book, "x\n")?;
+    assert!(rt; to.held().is_empty());
+    assert!(rt; matches!(&served, Served::BadLine { line } if line.as_slice() == b"x".as_slice()));
+    Ok(())
 }
 
 #[test]
