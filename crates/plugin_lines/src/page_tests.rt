@@ -57,6 +57,10 @@ fn the_requests_of_the_page_are_requests(rt: HostRuntime) -> Result<(), Fail> {
             "list 3",
         ),
         (
+            r#"{"attempt":1,"conditions":[],"connection":"c","function":"listGroups","id":3,"op":"list","parent":null,"table":"account_group","version":1}"#,
+            "list 3",
+        ),
+        (
             r#"{"attempt":1,"connection":"c","function":"listOwners","id":4,"op":"parents","table":"bucket","version":7}"#,
             "parents 4",
         ),
