@@ -8,15 +8,14 @@ mod book_file;
 mod declared;
 mod fault;
 mod matching;
-mod streams;
 #[cfg(test)]
 mod tests;
 mod version_at;
 
 use crate::book::Book;
 use crate::book_file::read_book;
-use crate::streams::{ReaderSource, WriterSink};
 use plugin_kit::{Served, serve};
+use std_streams::{ReaderSource, WriterSink};
 use std::process::ExitCode;
 use std::{env, fs};
 

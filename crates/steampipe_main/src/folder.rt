@@ -1,12 +1,12 @@
 ghost use Rattle.std.specs.Prelude.{◌≡◌, ◌≤◌, ◌≢◌, IfOk, Err, length};
 ghost use Rattle.sp_outside.specs.Reading.{IsLonger};
 
-use crate::streams::ReaderSource;
 use sp_outside::{ReadEnd, Shelf, ShelfEnd, read_to_limit};
 use sp_value::Text;
 use std::alloc::Global;
 use std::fs::{self, Files};
 use std::io::{ErrorKind, Read};
+use std_streams::ReaderSource;
 
 const LIMIT: usize = 1_048_576;
 

@@ -8,15 +8,14 @@ mod pending_lines;
 mod pending_lines_tests;
 mod piped;
 mod programs;
-mod streams;
 
 use crate::folder::FolderShelf;
 use crate::machine_clock::MachineClock;
 use crate::programs::Programs;
-use crate::streams::{ReaderSource, WriterSink};
 use sp_value::{Memory, Text, Texts};
 use sp_world::Untold;
 use sqlite_items::Items;
+use std_streams::{ReaderSource, WriterSink};
 use std::env;
 use std::io::ErrorKind;
 use std::process::ExitCode;

@@ -1,6 +1,6 @@
 -- Interrupted writes put nothing.
 use Rattle.std.specs.Io.KnownBytes.{Keeps}
-use Rattle.steampipe_main.proofs.streams.write_some.Given as goal
+use Rattle.std_streams.proofs.streams.write_some.Given as goal
 
 abbrev pub invariant-loop : goal.invariant-loop
 invariant-loop g l = Keeps (g.K.Write.contents l.initial.writer) (g.K.Write.contents l.writer)

@@ -8,13 +8,13 @@ use std::io::{ErrorKind, Read, Write};
 
 /// A reader as a source. It tells what the reader tells, and counts its errors.
 #[derive(Drop)]
-pub(crate) struct ReaderSource<R: Read + Drop> {
+pub struct ReaderSource<R: Read + Drop> {
     reader: R,
     faults: u64,
 }
 
 impl<R: Read + Drop> ReaderSource<R> {
-    pub(crate) fn new(reader: R) -> ReaderSource<R>
+    pub fn new(reader: R) -> ReaderSource<R>
         ensures { result ≡ record { reader = reader; faults = 0 } }
     {
         ReaderSource { reader, faults: 0 }
@@ -58,13 +58,13 @@ impl<R: Read + Drop> Source for ReaderSource<R> {
 
 /// A writer as a sink. It tells what the writer tells, and counts its errors and the pieces of which it took nothing.
 #[derive(Drop)]
-pub(crate) struct WriterSink<K: Write + Drop> {
+pub struct WriterSink<K: Write + Drop> {
     writer: K,
     faults: u64,
 }
 
 impl<K: Write + Drop> WriterSink<K> {
-    pub(crate) fn new(writer: K) -> WriterSink<K>
+    pub fn new(writer: K) -> WriterSink<K>
         ensures { result ≡ record { writer = writer; faults = 0 } }
     {
         WriterSink { writer, faults: 0 }

@@ -1,6 +1,0 @@
--- Interrupted writes put nothing.
-use Rattle.std.specs.Io.KnownBytes.{Keeps}
-use Rattle.demo_plugin.proofs.streams.write_some.Given as goal
-
-abbrev pub invariant-loop : goal.invariant-loop
-invariant-loop g l = Keeps (g.K.Write.contents l.initial.writer) (g.K.Write.contents l.writer)

@@ -1,6 +1,0 @@
--- Interrupted reads took nothing.
-use Rattle.std.specs.Io.KnownBytes.{Keeps}
-use Rattle.steampipe_main.proofs.streams.read_some.Given as goal
-
-abbrev pub invariant-loop : goal.invariant-loop
-invariant-loop g l = Keeps (g.R.Read.remaining l.initial.reader) (g.R.Read.remaining l.reader)
