@@ -17,7 +17,7 @@ use Rattle.sp_world.specs.ReplyLines.{ReplyLine}
 use Rattle.sp_world.specs.Told as told
 use Rattle.sp_outside.specs.Log.{find_open, next_line, IsNextLine}
 use Rattle.sp_outside.specs.declared.log.OpenCall.{OpenCall}
-use Rattle.child_calls.specs.Asking.{answer_of, told_of, told_under, number_of, IsHonest, IsMisfit, IsByFault, IfLost}
+use Rattle.child_calls.specs.Asking.{answer_of, told_of, told_under, number_of, IsHonest, IsMisfit, is_fault, IfLost}
 use Rattle.child_calls.specs.declared.asking.AskEnd.{AskEnd}
 use Rattle.child_calls.specs.declared.asking.AskEnd.TheVariants as end
 
@@ -69,7 +69,7 @@ honest book sayable call bytes next h =
 
 -- so that no line of it loses the child
 pub no_loss : {S T : Type 0} (book : Book) → IsHonest book → (call : OpenCall) (bytes : List ℕ) → IsNextLine book (call ∷ []) bytes
-    → (q : Result S AskEnd) → IfLost q (IsMisfit bytes call) → (e : AskEnd) → q ≡ Err e → (r : Result T AskEnd) → IsErrAnd r (λ f. f ≡ e) → IfLost r IsByFault
+    → (q : Result S AskEnd) → IfLost q (IsMisfit bytes call) → (e : AskEnd) → q ≡ Err e → (r : Result T AskEnd) → IsErrAnd r (λ f. f ≡ e) → IfLost r (λ m. is_fault m ≡ true)
 no_loss book sayable call bytes next q h e same (Ok v) is = tt
 no_loss book sayable call bytes next q h e same (Err end.Memory) is = tt
 no_loss book sayable call bytes next q h e same (Err (end.Lost l)) is =

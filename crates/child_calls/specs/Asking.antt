@@ -1,5 +1,5 @@
 -- One call at a time.
-use Rattle.std.specs.Prelude.{◌≡◌, ℕ, ◌≤◌, ◌<◌, ◌^◌, ◌==◌, List, [], ◌∷◌, Option, Some, None, Result, Ok, Err, slice_get, if◌then◌else◌}
+use Rattle.std.specs.Prelude.{◌≡◌, ℕ, ◌<◌, ◌^◌, ◌==◌, Bool, true, false, ◌&&◌, nat_le, bytes_eq, is_none, List, [], ◌∷◌, Option, Some, None, Result, Ok, Err, slice_get, if◌then◌else◌}
 use Rattle.serde_json.specs.View.{view}
 use Rattle.sp_model.specs.Book.{Book}
 use Rattle.sp_model.specs.Sayable.{KeepsForms}
@@ -75,10 +75,9 @@ abbrev pub left_open : OpenCall → Answer → List OpenCall
 left_open call answer = if is_last answer then [] else one_more call ∷ []
 
 -- the line tells nothing of the one open call
-pub record FitsNone (line : List ℕ) (pending : List OpenCall) : Type 0 where
-  pub call : OpenCall
-  pub one : pending ≡ call ∷ []
-  pub none : answer_of call.id call.asked call.taken line ≡ None
+abbrev pub fits_none : List ℕ → List OpenCall → Bool
+fits_none line (call ∷ []) = is_none (answer_of call.id call.asked call.taken line)
+fits_none line _ = false
 
 -- a loss is by this line, which tells nothing of the one open call
 pub record IsMisfit (line : List ℕ) (call : OpenCall) (l : Loss) : Type 0 where
@@ -86,14 +85,13 @@ pub record IsMisfit (line : List ℕ) (call : OpenCall) (l : Loss) : Type 0 wher
   pub none : answer_of call.id call.asked call.taken line ≡ None
 
 -- why a child was lost: a fault was counted; or it gave a line, its last, that tells nothing of the open call
-abbrev pub IsCaused : Loss → ℕ → ℕ → List ℕ → Type 0
-IsCaused loss.Fault faulted gives last = 1 ≤ faulted
-IsCaused (loss.Bad line pending) faulted gives last = (1 ≤ gives) × (last ≡ line) × FitsNone line pending
+abbrev pub has_cause : Loss → ℕ → ℕ → List ℕ → Bool
+has_cause loss.Fault faulted gives last = nat_le 1 faulted
+has_cause (loss.Bad line pending) faulted gives last = nat_le 1 gives && bytes_eq last line && fits_none line pending
 
--- a loss was by a fault
-abbrev pub IsByFault : Loss → Type 0
-IsByFault loss.Fault = Unit {0}
-IsByFault (loss.Bad line pending) = ⊥
+abbrev pub is_fault : Loss → Bool
+is_fault loss.Fault = true
+is_fault (loss.Bad line pending) = false
 
 -- the end is a loss, of this property
 abbrev pub IfLost : {T : Type 0} → Result T AskEnd → (Loss → Type 0) → Type 0

@@ -1,10 +1,10 @@
-ghost use Rattle.std.specs.Prelude.{◌≡◌, [], ◌∷◌, Some, IsTrue, IfOk, IfSome, OnOk, Ok, option_map};
+ghost use Rattle.std.specs.Prelude.{◌≡◌, [], ◌∷◌, Some, true, IsTrue, IfOk, IfSome, OnOk, Ok, option_map};
 ghost use Rattle.sp_world.specs.Fits.{told_by, book_answer};
 ghost use Rattle.sp_world.specs.ReplyLines.{IsLineForm, seen};
 ghost use Rattle.sp_model.specs.declared.call.Asked.TheVariants as asked;
 ghost use Rattle.sp_world.specs.RequestLines.{IsRequestForm};
 ghost use Rattle.sp_outside.specs.Log.{pending, opened};
-ghost use Rattle.child_calls.specs.Asking.{answer_of, number_of, shown, IsAnswerTo, left_open, IsByFault, IsHonest, IsMisfit, IsCaused, IfLost};
+ghost use Rattle.child_calls.specs.Asking.{answer_of, number_of, shown, IsAnswerTo, left_open, has_cause, is_fault, IsHonest, IsMisfit, IfLost};
 
 use plugin_lines::read_line;
 use serde_json::Value;
@@ -162,8 +162,8 @@ pub(crate) fn receive_answer<W: World, C: Child<W>>(
     ensures told { IsTrue W.tells → IfOk result (λ a. shown a ≡ book_answer W.book call.now.asked call.now.taken) }
     ensures left { IsTrue W.tells → IfOk result (λ a. pending (C.log child.new) ≡ left_open call.now (shown a)) }
     ensures kind { IfOk result (IsAnswerTo call.now.asked call.now.taken) }
-    ensures lost { IfLost result (λ loss. IsCaused loss (C.faulted child.new) (C.gives child.new) (C.last child.new)) }
-    ensures honest { IsTrue W.tells → IsHonest W.book → IfLost result IsByFault }
+    ensures lost { IfLost result (λ loss. has_cause loss (C.faulted child.new) (C.gives child.new) (C.last child.new) ≡ true) }
+    ensures honest { IsTrue W.tells → IsHonest W.book → IfLost result (λ loss. is_fault loss ≡ true) }
 {
     let line = match child.receive(alloc) {
         Ok(line) => line,
@@ -183,8 +183,8 @@ pub(crate) fn open_call<W: World, C: Child<W>>(
     requires form { IsRequestForm request.now }
     requires none { IsTrue W.tells → pending (C.log child.old) ≡ [] }
     ensures opened { IsTrue W.tells → OnOk result (pending (C.log child.new) ≡ opened (Ok request.now) []) }
-    ensures lost { IfLost result (λ loss. IsCaused loss (C.faulted child.new) (C.gives child.new) (C.last child.new)) }
-    ensures honest { IfLost result IsByFault }
+    ensures lost { IfLost result (λ loss. has_cause loss (C.faulted child.new) (C.gives child.new) (C.last child.new) ≡ true) }
+    ensures honest { IfLost result (λ loss. is_fault loss ≡ true) }
 {
     let line = request_line(alloc, request)?;
     match child.send(&line) {

@@ -1,11 +1,11 @@
-ghost use Rattle.std.specs.Prelude.{◌≡◌, ◌<◌, ◌^◌, [], ◌∷◌, None, Some, IsTrue, IfOk, OnOk};
+ghost use Rattle.std.specs.Prelude.{◌≡◌, ◌<◌, ◌^◌, [], ◌∷◌, None, Some, true, IsTrue, IfOk, OnOk};
 ghost use Rattle.serde_json.specs.View.{view};
 ghost use Rattle.sp_model.specs.declared.call.Asked.TheVariants as asked;
 ghost use Rattle.sp_world.specs.Fits.{book_answer};
 ghost use Rattle.sp_world.specs.RequestLines.{IsRequestForm};
 ghost use Rattle.sp_world.specs.declared.line.Request.TheVariants as request;
 ghost use Rattle.sp_outside.specs.Log.{pending};
-ghost use Rattle.child_calls.specs.Asking.{shown, open_at, call_of, IsAnswerTo, IsSound, IsCall, IsPieceOf, IsWithin, reply_to, open_after, left_open, IsByFault, IsHonest, IsCaused, IfLost};
+ghost use Rattle.child_calls.specs.Asking.{shown, open_at, call_of, IsAnswerTo, IsSound, IsCall, IsPieceOf, IsWithin, reply_to, open_after, left_open, has_cause, is_fault, IsHonest, IfLost};
 
 use crate::asking::{Answered, AskEnd, open_call, receive_answer};
 use serde_json::Value;
@@ -29,8 +29,8 @@ fn exchange<W: World, C: Child<W>>(
     ensures told { IsTrue W.tells → IfOk result (λ a. shown a ≡ book_answer W.book call.now.asked call.now.taken) }
     ensures left { IsTrue W.tells → IfOk result (λ a. pending (C.log child.new) ≡ left_open call.now (shown a)) }
     ensures kind { IfOk result (IsAnswerTo call.now.asked call.now.taken) }
-    ensures lost { IfLost result (λ loss. IsCaused loss (C.faulted child.new) (C.gives child.new) (C.last child.new)) }
-    ensures honest { IsTrue W.tells → IsHonest W.book → IfLost result IsByFault }
+    ensures lost { IfLost result (λ loss. has_cause loss (C.faulted child.new) (C.gives child.new) (C.last child.new) ≡ true) }
+    ensures honest { IsTrue W.tells → IsHonest W.book → IfLost result (λ loss. is_fault loss ≡ true) }
 {
     open_call::<W, C>(alloc, child, request)?;
     let answer = receive_answer::<W, C>(alloc, child, call)?;
@@ -70,8 +70,8 @@ pub fn ask_declaration<W: World, C: Child<W>>(
     requires none { IsTrue W.tells → pending (C.log child.old) ≡ [] }
     ensures told { IsTrue W.tells → IfOk result (λ v. view v ≡ W.book.declaration connection.now) }
     ensures closed { IsTrue W.tells → OnOk result (pending (C.log child.new) ≡ []) }
-    ensures lost { IfLost result (λ loss. IsCaused loss (C.faulted child.new) (C.gives child.new) (C.last child.new)) }
-    ensures honest { IsTrue W.tells → IsHonest W.book → IfLost result IsByFault }
+    ensures lost { IfLost result (λ loss. has_cause loss (C.faulted child.new) (C.gives child.new) (C.last child.new) ≡ true) }
+    ensures honest { IsTrue W.tells → IsHonest W.book → IfLost result (λ loss. is_fault loss ≡ true) }
 {
     let call = declaration_call(alloc, id, connection)?;
     let request = request_of(alloc, &call)?;
@@ -108,8 +108,8 @@ pub fn ask_version<W: World, C: Child<W>>(
     ensures told { IsTrue W.tells → IfOk result (λ v. v ≡ W.book.version connection.now tick) }
     ensures sound { IfOk result IsSound }
     ensures closed { IsTrue W.tells → OnOk result (pending (C.log child.new) ≡ []) }
-    ensures lost { IfLost result (λ loss. IsCaused loss (C.faulted child.new) (C.gives child.new) (C.last child.new)) }
-    ensures honest { IsTrue W.tells → IsHonest W.book → IfLost result IsByFault }
+    ensures lost { IfLost result (λ loss. has_cause loss (C.faulted child.new) (C.gives child.new) (C.last child.new) ≡ true) }
+    ensures honest { IsTrue W.tells → IsHonest W.book → IfLost result (λ loss. is_fault loss ≡ true) }
 {
     let call = version_call(alloc, id, connection, tick)?;
     let request = request_of(alloc, &call)?;
@@ -141,8 +141,8 @@ fn receive_piece<W: World, C: Child<W>>(
     ensures told { IsTrue W.tells → IfOk result (IsPieceOf (reply_to W.book call.now.asked) call.now.taken) }
     ensures left { IsTrue W.tells → IfOk result (λ p. pending (C.log child.new) ≡ open_after call.now p) }
     ensures within { IfOk result (IsWithin call.now.taken) }
-    ensures lost { IfLost result (λ loss. IsCaused loss (C.faulted child.new) (C.gives child.new) (C.last child.new)) }
-    ensures honest { IsTrue W.tells → IsHonest W.book → IfLost result IsByFault }
+    ensures lost { IfLost result (λ loss. has_cause loss (C.faulted child.new) (C.gives child.new) (C.last child.new) ≡ true) }
+    ensures honest { IsTrue W.tells → IsHonest W.book → IfLost result (λ loss. is_fault loss ≡ true) }
 {
     match receive_answer::<W, C>(alloc, child, call)? {
         Answered::Piece(piece) => Ok(piece),
@@ -161,8 +161,8 @@ fn take_pieces<W: World, C: Child<W>>(
     requires only { IsTrue W.tells → pending (C.log child.old) ≡ call ∷ [] }
     ensures told { IsTrue W.tells → IfOk result (λ r. r ≡ reply_to W.book call.asked) }
     ensures closed { IsTrue W.tells → OnOk result (pending (C.log child.new) ≡ []) }
-    ensures lost { IfLost result (λ loss. IsCaused loss (C.faulted child.new) (C.gives child.new) (C.last child.new)) }
-    ensures honest { IsTrue W.tells → IsHonest W.book → IfLost result IsByFault }
+    ensures lost { IfLost result (λ loss. has_cause loss (C.faulted child.new) (C.gives child.new) (C.last child.new) ≡ true) }
+    ensures honest { IsTrue W.tells → IsHonest W.book → IfLost result (λ loss. is_fault loss ≡ true) }
 {
     let mut call = call;
     let mut items = Items::new(alloc);
@@ -195,8 +195,8 @@ fn fetch<W: World, C: Child<W>>(
     requires none { IsTrue W.tells → pending (C.log child.old) ≡ [] }
     ensures told { IsTrue W.tells → IfOk result (λ r. r ≡ reply_to W.book call.asked) }
     ensures closed { IsTrue W.tells → OnOk result (pending (C.log child.new) ≡ []) }
-    ensures lost { IfLost result (λ loss. IsCaused loss (C.faulted child.new) (C.gives child.new) (C.last child.new)) }
-    ensures honest { IsTrue W.tells → IsHonest W.book → IfLost result IsByFault }
+    ensures lost { IfLost result (λ loss. has_cause loss (C.faulted child.new) (C.gives child.new) (C.last child.new) ≡ true) }
+    ensures honest { IsTrue W.tells → IsHonest W.book → IfLost result (λ loss. is_fault loss ≡ true) }
 {
     open_call::<W, C>(alloc, child, request)?;
     let reply = take_pieces::<W, C>(alloc, child, call)?;
@@ -215,8 +215,8 @@ pub fn fetch_reply<W: World, C: Child<W>>(
     requires none { IsTrue W.tells → pending (C.log child.old) ≡ [] }
     ensures told { IsTrue W.tells → IfOk result (λ r. r ≡ W.book.reply key) }
     ensures closed { IsTrue W.tells → OnOk result (pending (C.log child.new) ≡ []) }
-    ensures lost { IfLost result (λ loss. IsCaused loss (C.faulted child.new) (C.gives child.new) (C.last child.new)) }
-    ensures honest { IsTrue W.tells → IsHonest W.book → IfLost result IsByFault }
+    ensures lost { IfLost result (λ loss. has_cause loss (C.faulted child.new) (C.gives child.new) (C.last child.new) ≡ true) }
+    ensures honest { IsTrue W.tells → IsHonest W.book → IfLost result (λ loss. is_fault loss ≡ true) }
 {
     let call = OpenCall {
         id,

@@ -4,7 +4,7 @@ use Rattle.sp_model.specs.Book.{Book}
 use Rattle.sp_model.specs.declared.settings.Connection.{Connection}
 use Rattle.sp_model.specs.declared.settings.Settings.{Settings}
 use Rattle.sp_outside.specs.declared.log.Loss.{Loss}
-use Rattle.child_calls.specs.Kids.{has_cause, is_fault}
+use Rattle.child_calls.specs.Asking.{has_cause, is_fault}
 use Rattle.input_lines.specs.declared.line.Line.{Line}
 use Rattle.input_lines.specs.declared.line.Line.TheVariants.{Statement, ClearCache, BadForm}
 use Rattle.session_core.specs.Answers.{refused, IsAnswer, IsByText, IfSpent}
