@@ -15,9 +15,9 @@ mod version_at;
 use crate::book::Book;
 use crate::book_file::read_book;
 use plugin_kit::{Served, serve};
-use std_streams::{ReaderSource, WriterSink};
 use std::process::ExitCode;
 use std::{env, fs};
+use std_streams::{ReaderSource, WriterSink};
 
 /// The one argument.
 fn book_name(rt: &HostRuntime) -> Option<String> {

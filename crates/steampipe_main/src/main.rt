@@ -15,10 +15,10 @@ use crate::programs::Programs;
 use sp_value::{Memory, Text, Texts};
 use sp_world::Untold;
 use sqlite_items::Items;
-use std_streams::{ReaderSource, WriterSink};
 use std::env;
 use std::io::ErrorKind;
 use std::process::ExitCode;
+use std_streams::{ReaderSource, WriterSink};
 use steampipe_top::{Status, steampipe};
 
 /// The words of the command line, none where one of them is no UTF-8.
