@@ -3,13 +3,13 @@ use Rattle.std.proofs.Common.{◌≡◌, ℕ, zero, suc, List, [], ◌∷◌, ma
 use Rattle.sp_model.specs.declared.declaration.Declaration.{Declaration}
 use Rattle.sp_model.specs.declared.declaration.FunctionDecl.{FunctionDecl}
 use Rattle.sp_model.specs.declared.declaration.TableDecl.{TableDecl}
-use Rattle.decl_core.specs.Leftover.{leftover}
-use Rattle.decl_core.specs.Order.{IsComplete}
-use Rattle.decl_core.specs.Reading.{or_else, fault_of, with_plugin_rule, finished}
-use Rattle.decl_core.specs.Refusals.{first_table, duplicate_table, first_cycle, cycle_in, has_unknown}
-use Rattle.decl_core.specs.declared.cycles.TableCycle.{TableCycle}
-use Rattle.decl_core.specs.declared.fault.DeclFault.{DeclFault}
-use Rattle.decl_core.specs.declared.fault.DeclFault.TheVariants.{DuplicateName, UnknownFunction, Cycle}
+use Rattle.decl_words.specs.Leftover.{leftover}
+use Rattle.decl_words.specs.Order.{IsComplete}
+use Rattle.decl_words.specs.Reading.{or_else, fault_of, with_plugin_rule, finished}
+use Rattle.decl_words.specs.Refusals.{first_table, duplicate_table, first_cycle, cycle_in, has_unknown}
+use Rattle.decl_words.specs.declared.cycles.TableCycle.{TableCycle}
+use Rattle.decl_words.specs.declared.fault.DeclFault.{DeclFault}
+use Rattle.decl_words.specs.declared.fault.DeclFault.TheVariants.{DuplicateName, UnknownFunction, Cycle}
 use Rattle.decl_core.proofs.Leftovers.{In}
 use Rattle.decl_core.proofs.Orders.{can_run}
 use Rattle.decl_core.proofs.TablesPass.{none-refused, dependencies-declared}

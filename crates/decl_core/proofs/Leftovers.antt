@@ -6,9 +6,9 @@ use Rattle.std.proofs.Math.Bool.{or-true}
 use Rattle.std.proofs.lemmas.Bool.{or_parts}
 use Rattle.std.proofs.lemmas.Slice.Eq.{bytes_eq-Decides}
 use Rattle.sp_model.specs.declared.declaration.FunctionDecl.{FunctionDecl}
-use Rattle.decl_core.specs.Leftover.{names_of_functions, waits_for, still_waiting, after_rounds, leftover}
-use Rattle.decl_core.specs.Members.{is_among}
-use Rattle.decl_core.specs.Refusals.{repeats, is_unknown, depends_on_unknown}
+use Rattle.decl_words.specs.Leftover.{names_of_functions, waits_for, still_waiting, after_rounds, leftover}
+use Rattle.decl_words.specs.Members.{is_among}
+use Rattle.decl_words.specs.Refusals.{repeats, is_unknown, depends_on_unknown}
 use Rattle.decl_core.specs.Taking.{stays, can_be_taken, with_taken, after_turns, takes_one, at_places}
 use Rattle.decl_core.proofs.NameSets.{is_among-push, is_among-added}
 

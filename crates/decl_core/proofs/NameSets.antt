@@ -6,7 +6,7 @@ use Rattle.std.proofs.lemmas.List.Folds.{list_any-append}
 use Rattle.std.proofs.lemmas.Slice.Eq.{bytes_eq-Decides}
 use Rattle.std.specs.List.{list_any, position_or_len}
 use Rattle.indexmap.specs.IndexSet.{insert_key}
-use Rattle.decl_core.specs.Members.{is_among}
+use Rattle.decl_words.specs.Members.{is_among}
 
 abbrev pub names : List (Bor (List ℕ)) → List (List ℕ)
 names keys = map (λ k. k.now) keys

@@ -4,10 +4,10 @@ use Rattle.std.specs.List.{list_any, list_all}
 use Rattle.std.proofs.Math.Bool.{or-true}
 use Rattle.std.proofs.lemmas.List.Sorted.{IsPermutation-append_right, IsPermutation-filter_both, IsPermutation-refl, IsPermutation-sym, IsPermutation-trans}
 use Rattle.sp_model.specs.declared.declaration.FunctionDecl.{FunctionDecl}
-use Rattle.decl_core.specs.Leftover.{names_of_functions, waits_for, still_waiting, after_rounds, leftover}
-use Rattle.decl_core.specs.Members.{is_among}
-use Rattle.decl_core.specs.Order.{comes_after, CanRun}
-use Rattle.decl_core.specs.Refusals.{depends_on_unknown}
+use Rattle.decl_words.specs.Leftover.{names_of_functions, waits_for, still_waiting, after_rounds, leftover}
+use Rattle.decl_words.specs.Members.{is_among}
+use Rattle.decl_words.specs.Order.{comes_after, CanRun}
+use Rattle.decl_words.specs.Refusals.{depends_on_unknown}
 use Rattle.decl_core.proofs.Leftovers.{In, In-filter, filter-In, In-none, named, is_among-In, dependency-known}
 
 -- all pass where each does

@@ -3,9 +3,9 @@ use Rattle.std.proofs.Common.{◌≡◌, ℕ, zero, suc, ◌<◌, Bool, true, fa
 use Rattle.std.proofs.lemmas.Bool.{or_parts}
 use Rattle.std.specs.List.{list_any}
 use Rattle.sp_model.specs.declared.declaration.TableDecl.{TableDecl}
-use Rattle.decl_core.specs.Leftover.{names_of_functions}
-use Rattle.decl_core.specs.Members.{is_among}
-use Rattle.decl_core.specs.Refusals.{first_table, duplicate_table, repeats, has_repeat, has_unknown, depends_on_unknown, column_is_unknown}
+use Rattle.decl_words.specs.Leftover.{names_of_functions}
+use Rattle.decl_words.specs.Members.{is_among}
+use Rattle.decl_words.specs.Refusals.{first_table, duplicate_table, repeats, has_repeat, has_unknown, depends_on_unknown, column_is_unknown}
 use Rattle.decl_core.proofs.Leftovers.{In}
 
 some-none : {X : Type 0} (b : Bool) (x : X) (o : Option X) → cond b (Some x) o ≡ None → (b ≡ false) × (o ≡ None)

@@ -4,8 +4,8 @@ use Rattle.std.specs.List.{list_any}
 use Rattle.std.specs.Option.{option_map_or}
 use Rattle.sp_model.specs.declared.declaration.ColumnDecl.{ColumnDecl}
 use Rattle.sp_model.specs.declared.declaration.FunctionDecl.{FunctionDecl}
-use Rattle.decl_core.specs.Members.{is_among}
-use Rattle.decl_core.specs.Refusals.{is_unknown, column_is_unknown, depends_on_unknown}
+use Rattle.decl_words.specs.Members.{is_among}
+use Rattle.decl_words.specs.Refusals.{is_unknown, column_is_unknown, depends_on_unknown}
 
 any-same : {X : Type 0} (p q : X → Bool) → ((x : X) → p x ≡ q x) → (xs : List X) → list_any p xs ≡ list_any q xs
 any-same p q same [] = refl

@@ -1,8 +1,8 @@
 ghost use Rattle.std.specs.Prelude.{◌≡◌, ℕ, List, codes, IfOk, option_and_then};
 ghost use Rattle.serde_json.specs.Find.{get};
 ghost use Rattle.serde_json.specs.View.{view};
-ghost use Rattle.decl_core.specs.Columns.{columns_of, names_of_columns, hydrated};
-ghost use Rattle.decl_core.specs.Members.{is_among};
+ghost use Rattle.decl_words.specs.Columns.{columns_of, names_of_columns, hydrated};
+ghost use Rattle.decl_words.specs.Members.{is_among};
 
 use crate::from_json::{FromJson, has_only, optional, optional_or, required};
 use crate::name_set::NameSet;
@@ -15,7 +15,7 @@ use std::alloc::Global;
 use std::marker::Model;
 
 impl FromJson for ColumnDecl {
-    ghost use Rattle.decl_core.specs.Columns.{column_of};
+    ghost use Rattle.decl_words.specs.Columns.{column_of};
 
     ghost read_as = { column_of };
 
@@ -49,7 +49,7 @@ impl FromJson for ColumnDecl {
 }
 
 impl FromJson for FunctionDecl {
-    ghost use Rattle.decl_core.specs.Columns.{function_of};
+    ghost use Rattle.decl_words.specs.Columns.{function_of};
 
     ghost read_as = { function_of };
 
@@ -122,8 +122,8 @@ pub struct KeyColumns<'a> {
 impl<'a> Model for KeyColumns<'a> {
     ghost use Rattle.std.specs.Prelude.{◌≡◌, List, ℕ};
     ghost use Rattle.sp_model.specs.declared.declaration.ColumnDecl.{ColumnDecl as Column};
-    ghost use Rattle.decl_core.specs.Columns.{names_of_columns, hydrated as hydrated_of};
-    ghost use Rattle.decl_core.specs.Members.{is_among};
+    ghost use Rattle.decl_words.specs.Columns.{names_of_columns, hydrated as hydrated_of};
+    ghost use Rattle.decl_words.specs.Members.{is_among};
 
     ghost Value = { List Column };
 

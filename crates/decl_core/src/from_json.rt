@@ -3,7 +3,7 @@ ghost use Rattle.std.specs.List.{list_all};
 ghost use Rattle.serde_json.specs.Find.{get};
 ghost use Rattle.serde_json.specs.View.{view, items_view, members_view};
 ghost use Rattle.sp_model.specs.Names.{is_plain_byte};
-ghost use Rattle.decl_core.specs.Members.{is_among, are_among, has_only, optional, optional_or, each, is_plain_text};
+ghost use Rattle.decl_words.specs.Members.{is_among, are_among, has_only, optional, optional_or, each, is_plain_text};
 
 use crate::words::{backoff_of, kind_of, matching_of, need_of, operator_of};
 use serde_json::{Map, Value};
@@ -26,7 +26,7 @@ pub trait FromJson: Drop {
 
 /// A name: a text that isn't empty and has no control character. Its length is limited elsewhere.
 impl FromJson for Text {
-    ghost use Rattle.decl_core.specs.Members.{name_of};
+    ghost use Rattle.decl_words.specs.Members.{name_of};
 
     ghost read_as = { name_of };
 
@@ -43,8 +43,8 @@ impl FromJson for Text {
 }
 
 impl FromJson for Kind {
-    ghost use Rattle.decl_core.specs.Members.{word_of};
-    ghost use Rattle.decl_core.specs.Words.{kind_of};
+    ghost use Rattle.decl_words.specs.Members.{word_of};
+    ghost use Rattle.decl_words.specs.Words.{kind_of};
 
     ghost read_as = { word_of kind_of };
 
@@ -57,8 +57,8 @@ impl FromJson for Kind {
 }
 
 impl FromJson for Op {
-    ghost use Rattle.decl_core.specs.Members.{word_of};
-    ghost use Rattle.decl_core.specs.Words.{operator_of};
+    ghost use Rattle.decl_words.specs.Members.{word_of};
+    ghost use Rattle.decl_words.specs.Words.{operator_of};
 
     ghost read_as = { word_of operator_of };
 
@@ -71,8 +71,8 @@ impl FromJson for Op {
 }
 
 impl FromJson for Need {
-    ghost use Rattle.decl_core.specs.Members.{word_of};
-    ghost use Rattle.decl_core.specs.Words.{need_of};
+    ghost use Rattle.decl_words.specs.Members.{word_of};
+    ghost use Rattle.decl_words.specs.Words.{need_of};
 
     ghost read_as = { word_of need_of };
 
@@ -85,8 +85,8 @@ impl FromJson for Need {
 }
 
 impl FromJson for Matching {
-    ghost use Rattle.decl_core.specs.Members.{word_of};
-    ghost use Rattle.decl_core.specs.Words.{matching_of};
+    ghost use Rattle.decl_words.specs.Members.{word_of};
+    ghost use Rattle.decl_words.specs.Words.{matching_of};
 
     ghost read_as = { word_of matching_of };
 
@@ -99,8 +99,8 @@ impl FromJson for Matching {
 }
 
 impl FromJson for Backoff {
-    ghost use Rattle.decl_core.specs.Members.{word_of};
-    ghost use Rattle.decl_core.specs.Words.{backoff_of};
+    ghost use Rattle.decl_words.specs.Members.{word_of};
+    ghost use Rattle.decl_words.specs.Words.{backoff_of};
 
     ghost read_as = { word_of backoff_of };
 
@@ -114,7 +114,7 @@ impl FromJson for Backoff {
 
 /// An array of values of the form.
 impl<T: FromJson> FromJson for Items<T> {
-    ghost use Rattle.decl_core.specs.Members.{list_of};
+    ghost use Rattle.decl_words.specs.Members.{list_of};
 
     ghost read_as = { list_of T.read_as };
 

@@ -2,8 +2,8 @@ ghost use Rattle.std.specs.Prelude.{◌≡◌, [], ◌∷◌, codes, not, IfOk, 
 ghost use Rattle.std.specs.List.{list_all, list_any};
 ghost use Rattle.serde_json.specs.Find.{get};
 ghost use Rattle.serde_json.specs.View.{view, items_view};
-ghost use Rattle.decl_core.specs.Keys.{default_matching, key_of, keys_of, is_equality, are_equalities, is_optional, fit_get, get_keys_of, list_access_of, get_access_of};
-ghost use Rattle.decl_core.specs.Members.{each, optional, optional_or};
+ghost use Rattle.decl_words.specs.Keys.{default_matching, key_of, keys_of, is_equality, are_equalities, is_optional, fit_get, get_keys_of, list_access_of, get_access_of};
+ghost use Rattle.decl_words.specs.Members.{each, optional, optional_or};
 
 use crate::columns::KeyColumns;
 use crate::from_json::{FromJson, has_only, optional, optional_or, required};
@@ -205,7 +205,7 @@ fn get_keys_at(
 }
 
 impl FromJson for AccessDecl {
-    ghost use Rattle.decl_core.specs.Keys.{access_of};
+    ghost use Rattle.decl_words.specs.Keys.{access_of};
 
     ghost read_as = { access_of };
 

@@ -1,5 +1,5 @@
 ghost use Rattle.std.specs.Prelude.{◌≡◌, [], ◌∷◌, ◌++◌, not, if◌then◌else◌, position, bytes_eq, IfOk};
-ghost use Rattle.decl_core.specs.Members.{is_among};
+ghost use Rattle.decl_words.specs.Members.{is_among};
 
 use indexmap::IndexSet;
 use sp_value::Memory;

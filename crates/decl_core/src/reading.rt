@@ -1,15 +1,15 @@
 ghost use Rattle.std.specs.Prelude.{◌≡◌, All, IfOk, map, reverse};
 ghost use Rattle.serde_json.specs.View.{view};
 ghost use Rattle.decl_core.specs.Faults.{IsUnlessMemory};
-ghost use Rattle.decl_core.specs.Order.{IsComplete};
-ghost use Rattle.decl_core.specs.Reading.{limit_of, fault_of, with_plugin_rule, finished, read_declaration};
+ghost use Rattle.decl_words.specs.Order.{IsComplete};
+ghost use Rattle.decl_words.specs.Reading.{limit_of, fault_of, with_plugin_rule, finished, read_declaration};
 
 use crate::cycles::first_cycle;
-use crate::fault::DeclFault;
 use crate::limits::{BeyondLimit, outside_fits};
 use crate::repeats::duplicate_table;
 use crate::table_rule::{NoAccess, SubsetKey, UnknownFunction, first_table};
 use crate::tables::draft_of;
+use decl_words::DeclFault;
 use serde_json::Value;
 use sp_model::{Declaration, Rule, TableDecl};
 use sp_value::{Memory, TryCopy};

@@ -1,9 +1,9 @@
 ghost use Rattle.std.specs.Prelude.{◌≡◌, ◌||◌, ℕ, List, IfOk};
 ghost use Rattle.std.specs.List.{list_any};
-ghost use Rattle.decl_core.specs.Columns.{hydrated};
-ghost use Rattle.decl_core.specs.Leftover.{names_of_functions};
-ghost use Rattle.decl_core.specs.Members.{is_among};
-ghost use Rattle.decl_core.specs.Refusals.{first_table, column_is_unknown, depends_on_unknown, is_subset, is_subset_key};
+ghost use Rattle.decl_words.specs.Columns.{hydrated};
+ghost use Rattle.decl_words.specs.Leftover.{names_of_functions};
+ghost use Rattle.decl_words.specs.Members.{is_among};
+ghost use Rattle.decl_words.specs.Refusals.{first_table, column_is_unknown, depends_on_unknown, is_subset, is_subset_key};
 
 use crate::columns::KeyColumns;
 use crate::name_set::NameSet;
@@ -104,7 +104,7 @@ fn some_unknown(names: &NameSet, table: &TableDecl) -> bool
 pub struct UnknownFunction;
 
 impl TableRule for UnknownFunction {
-    ghost use Rattle.decl_core.specs.Refusals.{has_unknown};
+    ghost use Rattle.decl_words.specs.Refusals.{has_unknown};
 
     ghost refuses = { has_unknown };
 
@@ -135,7 +135,7 @@ fn some_subset_key(columns: &KeyColumns, keys: &[KeyDecl]) -> bool
 pub struct SubsetKey;
 
 impl TableRule for SubsetKey {
-    ghost use Rattle.decl_core.specs.Refusals.{has_subset_key};
+    ghost use Rattle.decl_words.specs.Refusals.{has_subset_key};
 
     ghost refuses = { has_subset_key };
 
@@ -154,7 +154,7 @@ impl TableRule for SubsetKey {
 pub struct NoAccess;
 
 impl TableRule for NoAccess {
-    ghost use Rattle.decl_core.specs.Refusals.{has_no_access};
+    ghost use Rattle.decl_words.specs.Refusals.{has_no_access};
 
     ghost refuses = { has_no_access };
 

@@ -1,25 +1,18 @@
 ghost use Rattle.std.specs.Prelude.{◌≡◌, IfOk};
 ghost use Rattle.serde_json.specs.View.{view, items_view};
 ghost use Rattle.decl_core.specs.Faults.{IsUnlessMemory};
-ghost use Rattle.decl_core.specs.Tables.{accesses_in, table_with, table_of, tables_from, draft_of};
+ghost use Rattle.decl_words.specs.Tables.{accesses_in, table_with, table_of, tables_from, draft_of};
 
 use crate::columns::{KeyColumns, columns_at};
-use crate::fault::DeclFault;
 use crate::from_json::{has_only, optional_or, required};
 use crate::keys::{get_at, list_at};
 use crate::rules::rule_in;
+use decl_words::{Accesses, DeclFault};
 use serde_json::Value;
-use sp_model::{ColumnDecl, Declaration, FunctionDecl, GetDecl, ListDecl, Rule, TableDecl};
+use sp_model::{ColumnDecl, Declaration, FunctionDecl, Rule, TableDecl};
 use sp_value::{Memory, Text};
 use sqlite_items::Items;
 use std::alloc::Global;
-
-/// How the rows of a table are asked for.
-#[derive(Drop)]
-pub struct Accesses {
-    pub list: Option<ListDecl>,
-    pub get: Option<GetDecl>,
-}
 
 fn accesses_in(
     alloc: Global,

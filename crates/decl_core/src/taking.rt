@@ -1,9 +1,9 @@
 ghost use Rattle.std.specs.Prelude.{◌≡◌, [], false, filter, slice_get, IfOk, OnOk};
 ghost use Rattle.std.specs.List.{list_all, list_any};
 ghost use Rattle.std.specs.Option.{option_map_or};
-ghost use Rattle.decl_core.specs.Leftover.{names_of_functions, leftover};
-ghost use Rattle.decl_core.specs.Members.{is_among};
-ghost use Rattle.decl_core.specs.Refusals.{repeats, depends_on_unknown};
+ghost use Rattle.decl_words.specs.Leftover.{names_of_functions, leftover};
+ghost use Rattle.decl_words.specs.Members.{is_among};
+ghost use Rattle.decl_words.specs.Refusals.{repeats, depends_on_unknown};
 ghost use Rattle.decl_core.specs.Taking.{stays, can_be_taken, with_taken, after_turns, takes_one, at_places};
 
 use crate::name_set::NameSet;

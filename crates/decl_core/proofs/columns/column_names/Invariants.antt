@@ -1,7 +1,7 @@
 -- The names so far, and then those of the columns that are left, are all.
 use Rattle.std.proofs.Common.{◌≡◌, ◌||◌, ℕ, List, drop}
-use Rattle.decl_core.specs.Columns.{names_of_columns}
-use Rattle.decl_core.specs.Members.{is_among}
+use Rattle.decl_words.specs.Columns.{names_of_columns}
+use Rattle.decl_words.specs.Members.{is_among}
 use Rattle.decl_core.proofs.columns.column_names.Given as goal
 
 abbrev pub invariant-loop-column : goal.invariant-loop-column

@@ -2,8 +2,8 @@
 use Rattle.std.proofs.Common.{◌≡◌, List, Bool, true, false, ◌∷◌, ◌||◌, ◌+◌, drop, filter, cond, is_some, bytes_eq, refl, sym, ap, ◌∙◌}
 use Rattle.std.proofs.lemmas.List.{at_drop_more}
 use Rattle.sp_model.specs.declared.declaration.ColumnDecl.{ColumnDecl}
-use Rattle.decl_core.specs.Columns.{names_of_columns, hydrated}
-use Rattle.decl_core.specs.Members.{is_among}
+use Rattle.decl_words.specs.Columns.{names_of_columns, hydrated}
+use Rattle.decl_words.specs.Members.{is_among}
 use Rattle.decl_core.proofs.NameSets.{is_among-insert}
 use Rattle.decl_core.proofs.columns.hydrated_names.Goals.{then-is_some+in_ok-insert, else-is_some}
 use Rattle.decl_core.proofs.columns.hydrated_names.Goals as goal

@@ -5,8 +5,8 @@ use Rattle.serde_json.specs.View.{view, items_view}
 use Rattle.serde_json.specs.declared.value.Value.{Value}
 use Rattle.sp_model.specs.declared.declaration.KeyDecl.{KeyDecl}
 use Rattle.decl_core.proofs.ReadOneByOne.{one_more}
-use Rattle.decl_core.specs.Keys.{key_of}
-use Rattle.decl_core.specs.Members.{each}
+use Rattle.decl_words.specs.Keys.{key_of}
+use Rattle.decl_words.specs.Members.{each}
 use Rattle.decl_core.proofs.keys.keys_in.Goals as goal
 
 pub loop-value-preserved : goal.loop-value-preserved

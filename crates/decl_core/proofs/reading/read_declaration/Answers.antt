@@ -1,7 +1,7 @@
 -- A declaration without a fault is complete.
 use Rattle.std.proofs.Common.{All, sym, subst, ◌∙◌}
 use Rattle.sp_model.specs.declared.declaration.Declaration.{Declaration}
-use Rattle.decl_core.specs.Order.{IsComplete}
+use Rattle.decl_words.specs.Order.{IsComplete}
 use Rattle.decl_core.proofs.Complete.{complete}
 use Rattle.decl_core.proofs.reading.read_declaration.Goals as goal
 

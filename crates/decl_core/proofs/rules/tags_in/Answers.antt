@@ -4,7 +4,7 @@ use Rattle.serde_json.proofs.Views.{Entry}
 use Rattle.serde_json.specs.View.{view, members_view}
 use Rattle.sp_model.specs.declared.settings.Pair.{Pair}
 use Rattle.decl_core.proofs.ReadOneByOne.{one_more}
-use Rattle.decl_core.specs.Rules.{tag_of, tags_in}
+use Rattle.decl_words.specs.Rules.{tag_of, tags_in}
 use Rattle.decl_core.proofs.rules.tags_in.Goals as goal
 
 pub loop-key-preserved : goal.loop-key-preserved

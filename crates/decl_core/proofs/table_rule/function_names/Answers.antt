@@ -2,8 +2,8 @@
 use Rattle.std.proofs.Common.{◌≡◌, List, Bool, ◌∷◌, ◌||◌, ◌+◌, drop, bytes_eq, sym, ap, ◌∙◌}
 use Rattle.std.proofs.lemmas.List.{at_drop_more}
 use Rattle.sp_model.specs.declared.declaration.FunctionDecl.{FunctionDecl}
-use Rattle.decl_core.specs.Leftover.{names_of_functions}
-use Rattle.decl_core.specs.Members.{is_among}
+use Rattle.decl_words.specs.Leftover.{names_of_functions}
+use Rattle.decl_words.specs.Members.{is_among}
 use Rattle.decl_core.proofs.NameSets.{is_among-insert}
 use Rattle.decl_core.proofs.table_rule.function_names.Goals as goal
 

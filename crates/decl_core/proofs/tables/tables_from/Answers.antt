@@ -5,8 +5,8 @@ use Rattle.serde_json.specs.View.{view, items_view}
 use Rattle.serde_json.specs.declared.value.Value.{Value}
 use Rattle.sp_model.specs.declared.declaration.TableDecl.{TableDecl}
 use Rattle.decl_core.proofs.TablesSoFar.{after_tables, after_one}
-use Rattle.decl_core.specs.Tables.{table_of, tables_from}
-use Rattle.decl_core.specs.declared.fault.DeclFault.{DeclFault}
+use Rattle.decl_words.specs.Tables.{table_of, tables_from}
+use Rattle.decl_words.specs.declared.fault.DeclFault.{DeclFault}
 use Rattle.decl_core.proofs.tables.tables_from.Goals as goal
 
 pub loop-value-preserved : goal.loop-value-preserved

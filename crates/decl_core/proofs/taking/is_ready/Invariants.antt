@@ -1,7 +1,7 @@
 -- Whether those that are left are all taken out is whether all are.
 use Rattle.std.proofs.Common.{◌≡◌, drop}
 use Rattle.std.specs.List.{list_all}
-use Rattle.decl_core.specs.Members.{is_among}
+use Rattle.decl_words.specs.Members.{is_among}
 use Rattle.decl_core.proofs.taking.is_ready.Given as goal
 
 abbrev pub invariant-loop-dependency : goal.invariant-loop-dependency

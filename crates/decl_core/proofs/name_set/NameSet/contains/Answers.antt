@@ -1,6 +1,6 @@
 -- A name is among the keys where it is among their names.
 use Rattle.std.proofs.Common.{sym, ◌∙◌, ap}
-use Rattle.decl_core.specs.Members.{is_among}
+use Rattle.decl_words.specs.Members.{is_among}
 use Rattle.decl_core.proofs.NameSets.{is_among_keys}
 use Rattle.decl_core.proofs.name_set.NameSet.contains.Goals as goal
 

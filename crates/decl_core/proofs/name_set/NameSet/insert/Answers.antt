@@ -1,6 +1,6 @@
 -- A name that was new stands at the end.
 use Rattle.std.proofs.Common.{not, sym, ◌∙◌, ap, cond, ◌++◌, ◌∷◌, []}
-use Rattle.decl_core.specs.Members.{is_among}
+use Rattle.decl_words.specs.Members.{is_among}
 use Rattle.decl_core.proofs.NameSets.{names, is_among_keys, names_of_insert}
 use Rattle.decl_core.proofs.name_set.NameSet.insert.Goals as goal
 

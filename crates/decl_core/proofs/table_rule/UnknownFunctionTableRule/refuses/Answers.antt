@@ -1,7 +1,7 @@
 -- Which names are unknown depends on which names there are.
 use Rattle.std.proofs.Common.{ap, ◌∙◌}
-use Rattle.decl_core.specs.Leftover.{names_of_functions}
-use Rattle.decl_core.specs.Members.{is_among}
+use Rattle.decl_words.specs.Leftover.{names_of_functions}
+use Rattle.decl_words.specs.Members.{is_among}
 use Rattle.decl_core.proofs.Unknowns.{unknown_by}
 use Rattle.decl_core.proofs.table_rule.UnknownFunctionTableRule.refuses.Goals as goal
 
