@@ -184,7 +184,7 @@ is_complete (Full s) = false
 is_complete (Failed row column cause) = true
 is_complete Waiting = false
 
--- a walk in which no list, get or parents call was asked again
+-- a walk that ended in rows, and in which no list, get or parents call was asked again
 abbrev pub is_steady : Walk → Bool
 is_steady (Going s) = s.steady
 is_steady (Full s) = s.steady
