@@ -1,7 +1,7 @@
 -- A list that is read one by one.
 use Rattle.std.proofs.Common.{◌≡◌, List, [], ◌∷◌, ◌++◌, Option, Some, None, option_map, sym, ap, ◌∙◌}
 use Rattle.std.proofs.lemmas.List.{append_assoc}
-use Rattle.decl_core.specs.Members.{cons_some}
+use Rattle.decl_words.specs.Members.{cons_some}
 
 -- one thing read, and then the rest, after those before
 pub one_more : {T : Type 0} (xs : List T) (x : T) (o : Option T) (rest : Option (List T)) → o ≡ Some x

@@ -2,8 +2,8 @@
 use Rattle.std.proofs.Common.{◌≡◌, ℕ, List, [], ◌∷◌, ◌++◌, Option, Some, Result, Ok, Err, sym, ap, ◌∙◌}
 use Rattle.std.proofs.lemmas.List.{append_assoc}
 use Rattle.sp_model.specs.declared.declaration.TableDecl.{TableDecl}
-use Rattle.decl_core.specs.Tables.{with_table}
-use Rattle.decl_core.specs.declared.fault.DeclFault.{DeclFault}
+use Rattle.decl_words.specs.Tables.{with_table}
+use Rattle.decl_words.specs.declared.fault.DeclFault.{DeclFault}
 
 -- the tables so far, and then what the rest is
 abbrev pub after_tables : List TableDecl → Result (List TableDecl) DeclFault → Result (List TableDecl) DeclFault

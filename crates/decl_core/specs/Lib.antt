@@ -1,13 +1,1 @@
-pub mod Members
-pub mod Words
-pub mod Faults
-pub mod Rules
-pub mod Columns
-pub mod Keys
-pub mod Tables
-pub mod Leftover
 pub mod Taking
-pub mod Refusals
-pub mod Limits
-pub mod Reading
-pub mod Order

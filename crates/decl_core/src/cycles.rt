@@ -1,17 +1,11 @@
 ghost use Rattle.std.specs.Prelude.{◌≡◌, [], None, IfOk};
-ghost use Rattle.decl_core.specs.Refusals.{duplicate_table, first_table, first_cycle, has_unknown};
+ghost use Rattle.decl_words.specs.Refusals.{duplicate_table, first_table, first_cycle, has_unknown};
 
 use crate::taking::leftover;
+use decl_words::TableCycle;
 use sp_model::TableDecl;
-use sp_value::{Memory, Texts};
+use sp_value::Memory;
 use std::alloc::Global;
-
-/// The functions of a table that depend on themselves or on such functions.
-#[derive(Drop)]
-pub struct TableCycle {
-    pub table: u64,
-    pub functions: Texts,
-}
 
 /// The first table with such functions, and their names in declared order.
 pub fn first_cycle(alloc: Global, tables: &[TableDecl]) -> Result<Option<TableCycle>, Memory>

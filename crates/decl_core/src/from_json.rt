@@ -2,8 +2,8 @@ ghost use Rattle.std.specs.Prelude.{◌≡◌, IfOk, map, option_and_then};
 ghost use Rattle.std.specs.List.{list_all};
 ghost use Rattle.serde_json.specs.Find.{get};
 ghost use Rattle.serde_json.specs.View.{view, items_view, members_view};
-ghost use Rattle.sp_model.specs.Names.{is_plain_byte};
-ghost use Rattle.decl_core.specs.Members.{is_among, are_among, has_only, optional, optional_or, each, is_plain_text};
+ghost use Rattle.sp_model.specs.Names.{has_name, is_plain_byte};
+ghost use Rattle.decl_words.specs.Members.{are_among, has_only, optional, optional_or, each, is_plain_text};
 
 use crate::words::{backoff_of, kind_of, matching_of, need_of, operator_of};
 use serde_json::{Map, Value};
@@ -26,7 +26,7 @@ pub trait FromJson: Drop {
 
 /// A name: a text that isn't empty and has no control character. Its length is limited elsewhere.
 impl FromJson for Text {
-    ghost use Rattle.decl_core.specs.Members.{name_of};
+    ghost use Rattle.decl_words.specs.Members.{name_of};
 
     ghost read_as = { name_of };
 
@@ -43,8 +43,8 @@ impl FromJson for Text {
 }
 
 impl FromJson for Kind {
-    ghost use Rattle.decl_core.specs.Members.{word_of};
-    ghost use Rattle.decl_core.specs.Words.{kind_of};
+    ghost use Rattle.decl_words.specs.Members.{word_of};
+    ghost use Rattle.decl_words.specs.Words.{kind_of};
 
     ghost read_as = { word_of kind_of };
 
@@ -57,8 +57,8 @@ impl FromJson for Kind {
 }
 
 impl FromJson for Op {
-    ghost use Rattle.decl_core.specs.Members.{word_of};
-    ghost use Rattle.decl_core.specs.Words.{operator_of};
+    ghost use Rattle.decl_words.specs.Members.{word_of};
+    ghost use Rattle.decl_words.specs.Words.{operator_of};
 
     ghost read_as = { word_of operator_of };
 
@@ -71,8 +71,8 @@ impl FromJson for Op {
 }
 
 impl FromJson for Need {
-    ghost use Rattle.decl_core.specs.Members.{word_of};
-    ghost use Rattle.decl_core.specs.Words.{need_of};
+    ghost use Rattle.decl_words.specs.Members.{word_of};
+    ghost use Rattle.decl_words.specs.Words.{need_of};
 
     ghost read_as = { word_of need_of };
 
@@ -85,8 +85,8 @@ impl FromJson for Need {
 }
 
 impl FromJson for Matching {
-    ghost use Rattle.decl_core.specs.Members.{word_of};
-    ghost use Rattle.decl_core.specs.Words.{matching_of};
+    ghost use Rattle.decl_words.specs.Members.{word_of};
+    ghost use Rattle.decl_words.specs.Words.{matching_of};
 
     ghost read_as = { word_of matching_of };
 
@@ -99,8 +99,8 @@ impl FromJson for Matching {
 }
 
 impl FromJson for Backoff {
-    ghost use Rattle.decl_core.specs.Members.{word_of};
-    ghost use Rattle.decl_core.specs.Words.{backoff_of};
+    ghost use Rattle.decl_words.specs.Members.{word_of};
+    ghost use Rattle.decl_words.specs.Words.{backoff_of};
 
     ghost read_as = { word_of backoff_of };
 
@@ -114,7 +114,7 @@ impl FromJson for Backoff {
 
 /// An array of values of the form.
 impl<T: FromJson> FromJson for Items<T> {
-    ghost use Rattle.decl_core.specs.Members.{list_of};
+    ghost use Rattle.decl_words.specs.Members.{list_of};
 
     ghost read_as = { list_of T.read_as };
 
@@ -137,9 +137,7 @@ fn each<T: FromJson>(alloc: Global, values: &Vec<Value>) -> Result<Option<Items<
         let Some(item) = T::from_json(alloc, value)? else {
             return Ok(None);
         };
-        let Ok(()) = items.push(item) else {
-            return Err(Memory);
-        };
+        items.push(item)?;
     }
     Ok(Some(items))
 }
@@ -164,8 +162,8 @@ fn is_plain_text(name: &str) -> bool
 }
 
 /// Whether a name is one of these.
-pub fn is_among(names: &[&str], name: &str) -> bool
-    ensures { result ≡ is_among (map (λ n. n.now) names.entry.now) name.now }
+pub fn has_name(names: &[&str], name: &str) -> bool
+    ensures { result ≡ has_name (map (λ n. n.now) names.entry.now) name.now }
 {
     for known in names {
         if name == *known {
@@ -179,7 +177,7 @@ fn are_among(names: &[&str], members: &Map<String, Value>) -> bool
     ensures { result ≡ are_among (map (λ n. n.now) names.entry.now) (members_view members.now.entries) }
 {
     for (key, _member) in members.iter() {
-        if !is_among(names, key.as_str()) {
+        if !has_name(names, key.as_str()) {
             return false;
         }
     }

@@ -2,8 +2,8 @@ ghost use Rattle.std.specs.Prelude.{◌≡◌, [], ◌∷◌, codes, not, IfOk, 
 ghost use Rattle.std.specs.List.{list_all, list_any};
 ghost use Rattle.serde_json.specs.Find.{get};
 ghost use Rattle.serde_json.specs.View.{view, items_view};
-ghost use Rattle.decl_core.specs.Keys.{default_matching, key_of, keys_of, is_equality, are_equalities, is_optional, fit_get, get_keys_of, list_access_of, get_access_of};
-ghost use Rattle.decl_core.specs.Members.{each, optional, optional_or};
+ghost use Rattle.decl_words.specs.Keys.{default_matching, key_of, keys_of, is_equality, are_equalities, is_optional, fit_get, get_keys_of, list_access_of, get_access_of};
+ghost use Rattle.decl_words.specs.Members.{each, optional, optional_or};
 
 use crate::columns::KeyColumns;
 use crate::from_json::{FromJson, has_only, optional, optional_or, required};
@@ -28,9 +28,7 @@ fn equality(alloc: Global) -> Result<Items<Op>, Memory>
     ensures { IfOk result (λ os. os ≡ Op.Eq ∷ []) }
 {
     let mut operators = Items::new(alloc);
-    let Ok(()) = operators.push(Op::Eq) else {
-        return Err(Memory);
-    };
+    operators.push(Op::Eq)?;
     Ok(operators)
 }
 
@@ -80,9 +78,7 @@ fn keys_in(
         let Some(key) = key_of(alloc, columns, value)? else {
             return Ok(None);
         };
-        let Ok(()) = keys.push(key) else {
-            return Err(Memory);
-        };
+        keys.push(key)?;
     }
     Ok(Some(keys))
 }
@@ -205,7 +201,7 @@ fn get_keys_at(
 }
 
 impl FromJson for AccessDecl {
-    ghost use Rattle.decl_core.specs.Keys.{access_of};
+    ghost use Rattle.decl_words.specs.Keys.{access_of};
 
     ghost read_as = { access_of };
 

@@ -3,7 +3,6 @@
 
 mod columns;
 mod cycles;
-mod fault;
 mod from_json;
 mod keys;
 mod limits;
@@ -18,5 +17,4 @@ mod taking;
 mod tests;
 mod words;
 
-pub use fault::DeclFault;
 pub use reading::read_declaration;

@@ -1,7 +1,7 @@
 ghost use Rattle.std.specs.Prelude.{◌≡◌, true};
 ghost use Rattle.std.specs.List.{list_all};
 ghost use Rattle.std.specs.Option.{option_map_or};
-ghost use Rattle.decl_core.specs.Limits.{is_short, optional_is_short, few_patterns, retry_fits, rule_fits, call_fits, column_fits, keys_fit, access_fits, list_fits, get_fits, function_fits, table_fits, outside_fits};
+ghost use Rattle.decl_words.specs.Limits.{is_short, optional_is_short, few_patterns, retry_fits, rule_fits, call_fits, column_fits, keys_fit, access_fits, list_fits, get_fits, function_fits, table_fits, outside_fits};
 
 use crate::table_rule::TableRule;
 use sp_model::{
@@ -205,7 +205,7 @@ pub struct BeyondLimit;
 
 impl TableRule for BeyondLimit {
     ghost use Rattle.std.specs.Prelude.{not};
-    ghost use Rattle.decl_core.specs.Limits.{table_fits};
+    ghost use Rattle.decl_words.specs.Limits.{table_fits};
 
     ghost refuses = { λ t. not (table_fits t) };
 

@@ -1,5 +1,5 @@
 ghost use Rattle.std.specs.Prelude.{◌≡◌, [], map, IfOk};
-ghost use Rattle.decl_core.specs.Refusals.{repeats, list_repeats, get_repeats, has_repeat, duplicate_table};
+ghost use Rattle.decl_words.specs.Refusals.{repeats, list_repeats, get_repeats, has_repeat, duplicate_table};
 
 use crate::name_set::NameSet;
 use sp_model::{ColumnDecl, FunctionDecl, GetDecl, KeyDecl, ListDecl, TableDecl};

@@ -1,4 +1,5 @@
-use crate::{DeclFault, read_declaration};
+use crate::read_declaration;
+use decl_words::DeclFault;
 use serde_json::Value;
 use sp_model::{ColumnDecl, KeyDecl, Retry};
 use sp_value::Texts;

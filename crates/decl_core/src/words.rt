@@ -1,5 +1,5 @@
 ghost use Rattle.std.specs.Prelude.{◌≡◌};
-ghost use Rattle.decl_core.specs.Words.{kind_of, operator_of, need_of, matching_of, backoff_of};
+ghost use Rattle.decl_words.specs.Words.{kind_of, operator_of, need_of, matching_of, backoff_of};
 
 use sp_model::{Backoff, Matching, Need};
 use sp_value::{Kind, Op};

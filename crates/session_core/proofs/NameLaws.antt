@@ -36,7 +36,7 @@ use Rattle.session_core.specs.declared.answer.AnswerEnd.{AnswerEnd}
 use Rattle.session_core.specs.declared.answer.AnswerEnd.TheVariants as end
 use Rattle.session_core.specs.declared.answer.BlockFault.{BlockFault}
 use Rattle.session_core.specs.declared.answer.BlockFault.TheVariants as fault
-use Rattle.decl_core.specs.declared.fault.DeclFault.{DeclFault}
+use Rattle.decl_words.specs.declared.fault.DeclFault.{DeclFault}
 
 abbrev connection_of : Opened → List ℕ
 connection_of o = o.source.connection.text

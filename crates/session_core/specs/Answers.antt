@@ -24,8 +24,8 @@ use Rattle.sql_bind.specs.Known.{Known, is_connection, declaration_of}
 use Rattle.sql_bind.specs.declared.bound.Bound.{Bound}
 use Rattle.sql_bind.specs.declared.fault.BindFault.{BindFault}
 use Rattle.sql_bind.specs.declared.fault.BindFault.TheVariants as bind
-use Rattle.decl_core.specs.Reading.{read_declaration}
-use Rattle.decl_core.specs.declared.fault.DeclFault.{DeclFault}
+use Rattle.decl_words.specs.Reading.{read_declaration}
+use Rattle.decl_words.specs.declared.fault.DeclFault.{DeclFault}
 use Rattle.scan_plan.specs.Plans.{plan_of, request_of, rows_by, wants_none}
 use Rattle.scan_plan.specs.declared.plan.Making.{Making}
 use Rattle.scan_plan.specs.declared.plan.Plan.{Plan}

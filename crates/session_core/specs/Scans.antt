@@ -13,7 +13,7 @@ use Rattle.scan_plan.specs.Plans.{wants_none}
 use Rattle.sp_model.specs.declared.scan.ScanNote.{ScanNote}
 use Rattle.session_core.specs.declared.scanning.Scanned.{Scanned}
 use Rattle.session_core.specs.Answers.{value_end, value_notes, by_plan, by_statement, first_bad, IsNoStatement, IsAsDefined}
-use Rattle.decl_core.specs.declared.fault.DeclFault.{DeclFault}
+use Rattle.decl_words.specs.declared.fault.DeclFault.{DeclFault}
 use Rattle.scan_plan.specs.declared.plan.Plan.{Plan}
 use Rattle.sp_model.specs.Book.{Book}
 use Rattle.sp_model.specs.declared.declaration.Declaration.{Declaration}

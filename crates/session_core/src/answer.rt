@@ -1,4 +1,4 @@
-use decl_core::DeclFault;
+use decl_words::DeclFault;
 use sp_model::{Cause, ScanNotes};
 use sp_value::{Kinds, Rows, Text, Texts};
 use sql_bind::BindFault;

@@ -2,7 +2,7 @@
 
 ghost use Rattle.std.specs.Prelude.{◌≡◌, Ok, true, IsTrue, IfErr, MatchResult};
 ghost use Rattle.serde_json.specs.View.{view};
-ghost use Rattle.decl_core.specs.Reading.{read_declaration};
+ghost use Rattle.decl_words.specs.Reading.{read_declaration};
 ghost use Rattle.child_calls.specs.Kids.{is_lost};
 ghost use Rattle.session_core.specs.Answers.{declared, IfSpent, IsPastNames};
 ghost use Rattle.session_core.specs.Scans.{IsBadOf, IsBadEnd, IsUndeclared};
@@ -10,7 +10,8 @@ ghost use Rattle.session_core.specs.Scans.{IsBadOf, IsBadEnd, IsUndeclared};
 use crate::answer::{AnswerEnd, BlockFault};
 use crate::scanning::end_of_call;
 use child_calls::Kid;
-use decl_core::{DeclFault, read_declaration};
+use decl_core::read_declaration;
+use decl_words::DeclFault;
 use serde_json::Value;
 use sp_model::Declaration;
 use sp_outside::Child;

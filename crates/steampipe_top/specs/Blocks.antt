@@ -3,8 +3,8 @@ use Rattle.std.specs.Prelude.{ℕ, ◌/◌, ◌%◌, ◌+◌, ◌==◌, ◌||◌
 use Rattle.std.specs.Fmt.{decimal}
 use Rattle.sp_model.specs.declared.scan.Cause.{Cause}
 use Rattle.sp_model.specs.declared.scan.Cause.TheVariants as cause
-use Rattle.decl_core.specs.declared.fault.DeclFault.{DeclFault}
-use Rattle.decl_core.specs.declared.fault.DeclFault.TheVariants as decl
+use Rattle.decl_words.specs.declared.fault.DeclFault.{DeclFault}
+use Rattle.decl_words.specs.declared.fault.DeclFault.TheVariants as decl
 use Rattle.run_lines.specs.declared.block.Block.{Block}
 use Rattle.session_core.specs.declared.answer.Answer.{Answer}
 use Rattle.session_core.specs.declared.answer.AnswerEnd.{AnswerEnd}

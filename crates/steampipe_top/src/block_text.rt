@@ -5,7 +5,7 @@ ghost use Rattle.session_core.specs.declared.answer.BlockFault.TheVariants as bl
 
 use crate::csv_text::csv_text;
 use crate::spelled::json_text;
-use decl_core::DeclFault;
+use decl_words::DeclFault;
 use session_core::{Answer, AnswerEnd, BlockFault};
 use sp_model::Cause;
 use sp_value::{Memory, Text};

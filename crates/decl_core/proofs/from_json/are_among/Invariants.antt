@@ -1,7 +1,7 @@
 -- Whether the members that are left all have one of the names is whether all have.
 use Rattle.std.proofs.Common.{◌≡◌, map}
 use Rattle.serde_json.specs.View.{members_view}
-use Rattle.decl_core.specs.Members.{are_among}
+use Rattle.decl_words.specs.Members.{are_among}
 use Rattle.decl_core.proofs.from_json.are_among.Given as goal
 
 abbrev pub invariant-loop-key : goal.invariant-loop-key

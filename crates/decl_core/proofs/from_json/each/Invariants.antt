@@ -1,7 +1,7 @@
 -- What is read so far, followed by what the rest reads as, is the whole.
 use Rattle.std.proofs.Common.{◌≡◌, ◌++◌, drop, option_map}
 use Rattle.serde_json.specs.View.{items_view}
-use Rattle.decl_core.specs.Members.{each}
+use Rattle.decl_words.specs.Members.{each}
 use Rattle.decl_core.proofs.from_json.each.Given as goal
 
 abbrev pub invariant-loop-value : goal.invariant-loop-value

@@ -1,7 +1,7 @@
 -- Whether those that are left all have `=` alone is whether all have.
 use Rattle.std.proofs.Common.{◌≡◌, drop}
 use Rattle.std.specs.List.{list_all}
-use Rattle.decl_core.specs.Keys.{are_equalities}
+use Rattle.decl_words.specs.Keys.{are_equalities}
 use Rattle.decl_core.proofs.keys.all_by_equality.Given as goal
 
 abbrev pub invariant-loop-key : goal.invariant-loop-key

@@ -1,7 +1,7 @@
 -- Whether one of those that are left is needed is whether one is.
 use Rattle.std.proofs.Common.{◌≡◌, drop, not}
 use Rattle.std.specs.List.{list_any}
-use Rattle.decl_core.specs.Keys.{is_optional}
+use Rattle.decl_words.specs.Keys.{is_optional}
 use Rattle.decl_core.proofs.keys.some_needed.Given as goal
 
 abbrev pub invariant-loop-key : goal.invariant-loop-key

@@ -1,6 +1,6 @@
 -- The first duplicate of the tables that are left is the first.
 use Rattle.std.proofs.Common.{◌≡◌, ◌+◌, [], drop}
-use Rattle.decl_core.specs.Refusals.{duplicate_table}
+use Rattle.decl_words.specs.Refusals.{duplicate_table}
 use Rattle.decl_core.proofs.repeats.duplicate_table.Given as goal
 
 abbrev pub invariant-loop-table : goal.invariant-loop-table

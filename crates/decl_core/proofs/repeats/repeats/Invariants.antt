@@ -1,6 +1,6 @@
 -- Whether a name that is left stands before it, or is seen, is whether one stands twice.
 use Rattle.std.proofs.Common.{◌≡◌, [], drop, map}
-use Rattle.decl_core.specs.Refusals.{repeats}
+use Rattle.decl_words.specs.Refusals.{repeats}
 use Rattle.decl_core.proofs.repeats.repeats.Given as goal
 
 abbrev pub invariant-loop-thing : goal.invariant-loop-thing

@@ -4,7 +4,7 @@ use Rattle.serde_json.proofs.Views.{Entry}
 use Rattle.serde_json.specs.View.{view, members_view}
 use Rattle.sp_model.specs.declared.settings.Pair.{Pair}
 use Rattle.decl_core.proofs.ReadOneByOne.{one_more}
-use Rattle.decl_core.specs.Rules.{tag_of, tags_in}
+use Rattle.decl_words.specs.Rules.{tag_of, tags_in}
 use Rattle.decl_core.proofs.rules.tags_in.Goals as goal
 
 pub loop-key-preserved : goal.loop-key-preserved
@@ -16,4 +16,4 @@ loop-key-preserved c =
     c.loop-key.invariant
     ∙ ap (λ entries. option_map (λ more. c.loop-key.tags ++ more) (left entries)) c.in-Some.ensures.steps
     ∙ one_more c.loop-key.tags c.in-Some-2.tag (tag_of (string_bytes c.in-Some.key.now) (view c.in-Some.member.now)) (left rest) read
-    ∙ ap (λ ts. option_map (λ more. ts ++ more) (left rest)) (sym c.in-Ok.ensures.ok)
+    ∙ ap (λ ts. option_map (λ more. ts ++ more) (left rest)) (sym c.in_ok-push.ensures.ok)

@@ -2,7 +2,7 @@
 use Rattle.std.proofs.Common.{◌≡◌, ◌++◌, drop, option_map}
 use Rattle.serde_json.specs.Find.{as_str}
 use Rattle.serde_json.specs.View.{items_view}
-use Rattle.decl_core.specs.Members.{each}
+use Rattle.decl_words.specs.Members.{each}
 use Rattle.decl_core.proofs.rules.texts_in.Given as goal
 
 abbrev pub invariant-loop-value : goal.invariant-loop-value

@@ -1,6 +1,6 @@
 -- The first of those that are left is the first.
 use Rattle.std.proofs.Common.{◌≡◌, ◌+◌, drop}
-use Rattle.decl_core.specs.Refusals.{first_table}
+use Rattle.decl_words.specs.Refusals.{first_table}
 use Rattle.decl_core.proofs.table_rule.first_table.Given as goal
 
 abbrev pub invariant-loop-table : goal.invariant-loop-table

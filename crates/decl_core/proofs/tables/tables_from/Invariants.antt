@@ -1,7 +1,7 @@
 -- The tables so far, followed by those of the items that are left, are all.
 use Rattle.std.proofs.Common.{◌≡◌, ◌+◌, drop}
 use Rattle.serde_json.specs.View.{items_view}
-use Rattle.decl_core.specs.Tables.{tables_from}
+use Rattle.decl_words.specs.Tables.{tables_from}
 use Rattle.decl_core.proofs.TablesSoFar.{after_tables}
 use Rattle.decl_core.proofs.tables.tables_from.Given as goal
 

@@ -1,0 +1,14 @@
+pub mod Faults
+pub mod Members
+pub mod Words
+pub mod Rules
+pub mod Columns
+pub mod Keys
+pub mod Tables
+pub mod Leftover
+pub mod Refusals
+pub mod Limits
+pub mod Reading
+pub mod Order
+pub mod BookTables
+pub mod Sound
