@@ -74,6 +74,8 @@ for text in sys.stdin:
         asked["id"]
     except (ValueError, KeyError, TypeError):
         continue
+    if FAULT == "strict" and asked["op"] == "nothing":
+        sys.exit("no such request")
     for answer in replies(asked):
         print(spelled(asked, answer), flush=FAULT != "not flushed")
     if FAULT == "ends too early" and asked["op"] == "version":

@@ -3,7 +3,7 @@ import json
 
 from .declaration import Declaration, Refused, order_of
 from .lines import is_integer
-from .report import Report, Stop, shown
+from .report import shown
 
 FITS = {
     "bool": lambda value: isinstance(value, bool),
@@ -170,38 +170,3 @@ class Conversation:
         calls.append(self.child.call(op="version", tick=2))
         self.child.send(*calls)
         self.child.wait_for(calls)
-
-
-def try_unknown_requests(child, report):
-    """Requests of a later kind and of an unknown table: the plugin goes on."""
-    child.ask(op="version", tick=0)
-    unknown = child.call(op="nothing")
-    no_table = child.call(
-        op="list", table="no such table", function="no such function", version=0, attempt=1, conditions=[], parent=None
-    )
-    after = child.call(op="version", tick=3)
-    child.send(unknown, no_table, after)
-    child.wait_for([after])
-    child.take(0.2)
-    for call, what in [(unknown, "a request of an unknown kind"), (no_table, "a list of a table that isn't declared")]:
-        if call.ending != "error":
-            report.note(what, f"{what} isn't answered by an error (steampipe sends none)")
-
-
-BAD_LINES = [b"no JSON", b"", b"[]", b"{}", b'{"id":', b'{"id":"x","op":"version"}', b"\xff"]
-
-
-def try_bad_lines(child, report):
-    """Lines that are no requests; steampipe sends none, so what comes of them is only noted."""
-    child.ask(op="version", tick=0)
-    child.report = Report()
-    child.report.is_silent = True
-    child.input.put(b"".join(line + b"\n" for line in BAD_LINES))
-    try:
-        child.ask(op="version", tick=4)
-    except Stop:
-        report.note("bad lines", "a line that is no request ends the plugin, or it answers no more (steampipe sends none)")
-        raise
-    if child.report.counts:
-        words = "a line that is no request is answered by a line that fits no call (steampipe sends none)"
-        report.note("bad lines", words)
