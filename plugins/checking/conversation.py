@@ -20,12 +20,12 @@ def check_fields(report, call, table, function):
             continue
         field = column.get("field", column["name"])
         if call.items and all(field not in item for item in call.items):
-            report.note("fields that aren't there", f"{call.name()}: no item has the field {field}")
-        for item in call.items:
+            report.note("fields that aren't there", f"{call.name()}: no item has the field {field}", call.lines[0])
+        for item, line in zip(call.items, call.lines):
             value = item.get(field)
             if value is not None and not FITS[column["kind"]](value):
                 words = f"{call.name()}: column {column['name']} is {column['kind']}, and not {shown(json.dumps(value))}"
-                report.wrong(f"another kind of value in {table['name']}.{column['name']}", words)
+                report.wrong(f"another kind of value in {table['name']}.{column['name']}", words, line)
 
 
 def field_of(table, item, name):
@@ -51,12 +51,12 @@ class Conversation:
                 Declaration(declared.value)
                 self.tables = declared.value["tables"]
             except Refused as refused:
-                self.report.wrong("declaration", f"the declaration is refused: {refused}")
+                self.report.wrong("declaration", f"the declaration is refused: {refused}", json.dumps(refused.part))
         told = self.child.ask(op="version", tick=0)
         if told.ending == "version":
             self.version = told.value
         elif told.ending == "error":
-            self.report.note("version", f"the version is an error: {told.value}")
+            self.report.note("version", "the version is an error", told.lines[-1])
         for table in self.tables:
             self.try_table(table)
         self.ask_at_once()
@@ -65,10 +65,10 @@ class Conversation:
         """A call of a table with its whole reply; an error is noted."""
         call = self.child.ask(table=table["name"], version=self.version, attempt=1, **members)
         if call.ending == "error":
-            self.report.note(f"errors of {table['name']}", f"{call.name()} ends with the error {call.value}")
+            self.report.note(f"errors of {table['name']}", f"{call.name()} ends with an error", call.lines[-1])
             if ":" not in call.value:
                 words = "an error of the form `CODE: message` can be told from others by the pattern `CODE:*`"
-                self.report.note("errors without a code", words)
+                self.report.note("errors without a code", words, call.lines[-1])
         return call
 
     def try_table(self, table):
@@ -90,10 +90,10 @@ class Conversation:
     def check_conditions(self, call, table):
         """What was asked for by `=` stands in each item."""
         for name, _, value in call.members["conditions"]:
-            for item in call.items:
+            for item, line in zip(call.items, call.lines):
                 if field_of(table, item, name) != value and not self.is_hydrated(table, name):
                     words = f"{call.name()} gave an item with another {name}"
-                    self.report.wrong(f"items that weren't asked for by {table['name']}.{name}", words, json.dumps(item))
+                    self.report.wrong(f"items that weren't asked for by {table['name']}.{name}", words, line)
 
     def is_hydrated(self, table, name):
         return any(column["name"] == name and "function" in column for column in table["columns"])
@@ -133,9 +133,10 @@ class Conversation:
             call = self.ask(table, op="get", function=table["get"]["function"], conditions=conditions)
             if len(call.items) > 1:
                 words = f"{call.name()} gave {len(call.items)} items; a get gives one at most"
-                self.report.wrong("too many items of a get", words)
+                self.report.wrong("too many items of a get", words, call.lines[1])
             elif not call.items and call.ending == "end":
-                self.report.note("gets without an item", f"{call.name()} gave nothing, though it was listed")
+                words = f"{call.name()} gave nothing, though it was listed"
+                self.report.note("gets without an item", words, call.request())
             check_fields(self.report, call, table, None)
             self.check_conditions(call, table)
             found += call.items
@@ -153,7 +154,7 @@ class Conversation:
             call = self.ask(table, op="hydrate", function=name, item=item, results=handed)
             if len(call.items) > 1:
                 words = f"{call.name()} gave {len(call.items)} items; a function gives one at most"
-                self.report.wrong("too many items of a function", words)
+                self.report.wrong("too many items of a function", words, call.lines[1])
             if call.ending == "end":
                 results[name] = call.items[0] if call.items else None
             check_fields(self.report, call, table, name)
