@@ -8,6 +8,7 @@ functions, several at once, sends it requests that it can't know and lines that 
 input. `wrong:` is what steampipe doesn't take, `note:` what it does. An answer has to come within N
 seconds, 5 if not given. The exit status is 0 where nothing is wrong, 1 where something is, and 2 for wrong words.
 """
+import os
 import subprocess
 import sys
 
@@ -81,4 +82,7 @@ def main():
 
 
 if __name__ == "__main__":
-    sys.exit(main())
+    try:
+        sys.exit(main())
+    except BrokenPipeError:
+        os._exit(1)  # nobody reads what is said any more
