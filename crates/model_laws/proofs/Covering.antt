@@ -5,10 +5,12 @@ use Rattle.std.proofs.lemmas.List.{append-nil}
 use Rattle.std.specs.List.{list_all}
 use Rattle.sp_value.specs.Truth.{truth}
 use Rattle.sp_value.specs.declared.cell.Cell.{Cell}
+use Rattle.sp_model.specs.Requests.{is_positive}
+use Rattle.sp_model.specs.Names.{are_distinct}
 use Rattle.sp_model.specs.Covers.{is_get, is_among, further, in_columns, cut}
 use Rattle.sp_model.specs.Fields.{field}
 use Rattle.sp_model.specs.Hydration.{hydrated}
-use Rattle.sp_model.specs.RowOf.{has_name, columns_named, row_of}
+use Rattle.sp_model.specs.RowOf.{has_name, columns_named, row_of, names_of_columns}
 use Rattle.sp_model.specs.Settling.{Seen, Answers, attempts_of}
 use Rattle.sp_model.specs.SubsetKeys.{field_named}
 use Rattle.sp_model.specs.Walk.{start, is_yes, cell_of, meets, is_reached, with_row_kept, with_row, visit_item, Source, walk, list_source, get_source, parent_source, parent_of, visit_parent, walk_by, walk_value, is_complete, is_steady}
@@ -26,7 +28,6 @@ use Rattle.sp_model.specs.declared.outcome.WalkState.{WalkState}
 use Rattle.sp_model.specs.declared.scan.Access.{Access}
 use Rattle.sp_model.specs.declared.scan.Access.TheVariants.{Get, List as OfList, Parents}
 use Rattle.sp_model.specs.declared.scan.ScanRequest.{ScanRequest}
-use Rattle.model_laws.specs.Covered.{are_distinct, names_of_columns, is_positive}
 use Rattle.model_laws.proofs.FewerColumns.{row_fewer, cell_is_field, name_in_more, cell_in, names_in}
 use Rattle.model_laws.proofs.Filtering.{filter_all, hold_of}
 use Rattle.model_laws.proofs.Growing.{Grows, row_grows, walk_grows}
@@ -50,6 +51,12 @@ holds_in columns cells condition = is_yes (truth condition.operator (cell_of col
 -- a column that no function gives
 abbrev pub is_field : List ColumnDecl → List ℕ → Bool
 is_field columns name = list_all (λ column. not (bytes_eq column.name name) || is_none column.function) columns
+
+-- a list has no parent, and the list of a parent has one
+abbrev pub fits_access : Access → Option Cell → Bool
+fits_access OfList None = true
+fits_access Parents (Some parent) = true
+fits_access _ _ = false
 
 module _ (table : TableDecl) (kept request : ScanRequest) (answers : Answers) where
   abbrev from : List ColumnDecl
@@ -89,7 +96,7 @@ module _ (table : TableDecl) (kept request : ScanRequest) (answers : Answers) wh
     pub among : list_all (is_among request.conditions) kept.conditions ≡ true
     pub named : list_all has_column request.conditions ≡ true
     pub fields : list_all shows_field more ≡ true
-    pub lists : (parent : Option Cell) → Asked (call.List table.name kept.conditions parent) (call.List table.name request.conditions parent)
+    pub lists : (parent : Option Cell) → fits_access request.access parent ≡ true → Asked (call.List table.name kept.conditions parent) (call.List table.name request.conditions parent)
     pub gets : is_get request.access ≡ true → Asked (call.Get table.name kept.conditions) (call.Get table.name request.conditions)
     pub positive : is_positive request.limit ≡ true
 
@@ -184,10 +191,11 @@ module _ (table : TableDecl) (kept request : ScanRequest) (answers : Answers) wh
         let source : Source = list_source table table.list in
         walk_grows visit item_grows source (answers (call.List table.name kept.conditions (Some parent))) (suc (attempts_of source.rule.retry - 1)) 1 t
 
-    parents_follow : (source : Source) (replies : ℕ → Seen) (t s : WalkState) → AtPart t.rows s → Goes (walk (visit_parent table kept answers) source replies t) (walk (visit_parent table request answers) source replies s)
-    parents_follow source replies t s m =
+    parents_follow : (source : Source) (replies : ℕ → Seen) (t s : WalkState) → ((parent : Cell) → Asked (call.List table.name kept.conditions (Some parent)) (call.List table.name request.conditions (Some parent)))
+        → AtPart t.rows s → Goes (walk (visit_parent table kept answers) source replies t) (walk (visit_parent table request answers) source replies s)
+    parents_follow source replies t s lists m =
         walk_follows shown keep kept.limit request.limit (visit_parent table kept answers) (visit_parent table request answers) (λ parent. true) parent_grows
-        (λ parent u v h n. call_follows (list_source table table.list) (call.List table.name kept.conditions (Some parent)) (call.List table.name request.conditions (Some parent)) u v (c.lists (Some parent)) n)
+        (λ parent u v h n. call_follows (list_source table table.list) (call.List table.name kept.conditions (Some parent)) (call.List table.name request.conditions (Some parent)) u v (lists parent) n)
         (λ parent u v h n. absurd (false≢true (sym h)))
         source replies replies t s (sym (filter_all (replies 1).items)) refl m
 
@@ -201,11 +209,12 @@ module _ (table : TableDecl) (kept request : ScanRequest) (answers : Answers) wh
     at_start = record { rows_are = refl; below = not_reached request.limit c.positive }
 
     access_follows : (access : Access) → (is_get access ≡ true → Asked (call.Get table.name kept.conditions) (call.Get table.name request.conditions))
-        → Goes (walk_by access table kept answers) (walk_by access table request answers)
-    access_follows Get gets = call_follows (get_source table table.get) (call.Get table.name kept.conditions) (call.Get table.name request.conditions) start start (gets refl) at_start
-    access_follows OfList gets =
-        call_follows (list_source table table.list) (call.List table.name kept.conditions None) (call.List table.name request.conditions None) start start (c.lists None) at_start
-    access_follows Parents gets = parents_follow (parent_source table (parent_of table.list)) (answers (call.Parents table.name)) start start at_start
+        → ((parent : Option Cell) → fits_access access parent ≡ true → Asked (call.List table.name kept.conditions parent) (call.List table.name request.conditions parent)) → Goes (walk_by access table kept answers) (walk_by access table request answers)
+    access_follows Get gets lists = call_follows (get_source table table.get) (call.Get table.name kept.conditions) (call.Get table.name request.conditions) start start (gets refl) at_start
+    access_follows OfList gets lists =
+        call_follows (list_source table table.list) (call.List table.name kept.conditions None) (call.List table.name request.conditions None) start start (lists None refl) at_start
+    access_follows Parents gets lists =
+        parents_follow (parent_source table (parent_of table.list)) (answers (call.Parents table.name)) start start (λ parent. lists (Some parent) refl) at_start
 
     abbrev part : List (List Cell) → List (List Cell)
     part rows = filter keep (map shown rows)
@@ -235,5 +244,5 @@ module _ (table : TableDecl) (kept request : ScanRequest) (answers : Answers) wh
         → walk_value (walk_by request.access table request answers) ≡ Some (Rows (cut request.limit (part rows)))
     covering_value rows same steady plain value =
         let at : Goes (walk_by kept.access table kept answers) (walk_by request.access table request answers) =
-        subst (λ a. Goes (walk_by a table kept answers) (walk_by request.access table request answers)) (sym same) (access_follows request.access c.gets) in
+        subst (λ a. Goes (walk_by a table kept answers) (walk_by request.access table request answers)) (sym same) (access_follows request.access c.gets c.lists) in
         value_by (walk_by kept.access table kept answers) (walk_by request.access table request answers) rows at steady plain value

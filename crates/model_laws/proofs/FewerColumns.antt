@@ -6,9 +6,10 @@ use Rattle.std.specs.List.{list_all, zip}
 use Rattle.sp_value.specs.Names.{value_under}
 use Rattle.sp_value.specs.declared.cell.Cell.{Cell}
 use Rattle.sp_value.specs.declared.kind.Kind.{Kind}
+use Rattle.sp_model.specs.Names.{are_distinct}
 use Rattle.sp_model.specs.Covers.{in_columns}
 use Rattle.sp_model.specs.Fields.{or_null, field, is_of_kind}
-use Rattle.sp_model.specs.RowOf.{has_name, checked, column_of, source_of, column_value, with_cell, row_of}
+use Rattle.sp_model.specs.RowOf.{has_name, checked, column_of, source_of, column_value, with_cell, row_of, names_of_columns}
 use Rattle.sp_model.specs.SubsetKeys.{field_named}
 use Rattle.sp_model.specs.Walk.{cell_of}
 use Rattle.sp_model.specs.declared.declaration.ColumnDecl.{ColumnDecl}
@@ -16,7 +17,6 @@ use Rattle.sp_model.specs.declared.outcome.Outcome.{Outcome}
 use Rattle.sp_model.specs.declared.outcome.Outcome.TheVariants.{Gave, Fails}
 use Rattle.sp_model.specs.declared.outcome.Row.{Row}
 use Rattle.sp_model.specs.declared.outcome.Row.TheVariants.{Whole, Broken}
-use Rattle.model_laws.specs.Covered.{are_distinct, names_of_columns}
 use Rattle.model_laws.proofs.Merging.{left, right}
 
 pub bytes_same : (a b : List ℕ) → bytes_eq a b ≡ true → a ≡ b

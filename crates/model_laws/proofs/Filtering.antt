@@ -1,13 +1,17 @@
 -- Replies to list calls with further conditions on keys that only filter.
-use Rattle.std.proofs.Common.{◌≡◌, ℕ, Bool, true, false, ◌&&◌, ◌||◌, not, cond, List, [], ◌∷◌, filter, Option, bytes_eq, refl, sym, ap, subst, ◌∙◌}
+use Rattle.std.proofs.Common.{◌≡◌, ℕ, Bool, true, false, ◌&&◌, ◌||◌, not, cond, List, [], ◌∷◌, filter, Option, is_some, bytes_eq, refl, sym, ap, subst, ◌∙◌}
 use Rattle.std.proofs.lemmas.Bool.{and_from, false≢true, or_right}
 use Rattle.std.specs.List.{list_all, list_any}
+use Rattle.std.specs.Ordering.{match_ordering}
+use Rattle.std.specs.declared.cmp.Ordering.{Ordering}
+use Rattle.std.specs.declared.cmp.Ordering.TheVariants.{Less, Equal, Greater}
 use Rattle.sp_value.specs.declared.cell.Cell.{Cell}
 use Rattle.sp_model.specs.Book.{Book}
-use Rattle.sp_model.specs.Conditions.{is_canonical}
-use Rattle.sp_model.specs.Keys.{same_operator, is_sent}
+use Rattle.sp_model.specs.Calls.{fit_keys, same_presence}
+use Rattle.sp_model.specs.Conditions.{is_scalar, condition_cmp, is_canonical}
+use Rattle.sp_model.specs.Keys.{same_operator, is_on, is_sent, put_condition, is_required, is_any_of, has_condition, is_met}
 use Rattle.sp_model.specs.RowOf.{has_name}
-use Rattle.sp_model.specs.SubsetKeys.{is_subset, is_on_subset_key, holds_of, list_key, SubsetKeysOnlyFilter}
+use Rattle.sp_model.specs.SubsetKeys.{is_subset, is_on_subset_key, holds_of, list_key, is_list_call, is_further, SubsetKeysOnlyFilter}
 use Rattle.sp_model.specs.declared.call.Condition.{Condition}
 use Rattle.sp_model.specs.declared.call.Reply.{Reply}
 use Rattle.sp_model.specs.declared.declaration.ColumnDecl.{ColumnDecl}
@@ -72,6 +76,60 @@ put_all_all : (p : Condition → Bool) (fs ks : List Condition) → list_all p f
 put_all_all p [] ks h k = k
 put_all_all p (f ∷ fs) ks h k = all_put p f (put_all fs ks) (left (p f) (list_all p fs) h) (put_all_all p fs ks (right (p f) (list_all p fs) h) k)
 
+-- ---- keys stay met
+
+or_weaker : (a b c : Bool) → (b ≡ true → c ≡ true) → (a || b) ≡ true → (a || c) ≡ true
+or_weaker true b c f h = refl
+or_weaker false b c f h = f h
+
+any_put_by : (p : Condition → Bool) (c d : Condition) (ds rest : List Condition) (o : Ordering) → list_any p (d ∷ ds) ≡ true → (list_any p ds ≡ true → list_any p rest ≡ true)
+    → list_any p (match_ordering o (c ∷ d ∷ ds) (d ∷ ds) (d ∷ rest)) ≡ true
+any_put_by p c d ds rest Less h later = or_right (p c) (list_any p (d ∷ ds)) h
+any_put_by p c d ds rest Equal h later = h
+any_put_by p c d ds rest Greater h later = or_weaker (p d) (list_any p ds) (list_any p rest) later h
+
+any_put : (p : Condition → Bool) (c : Condition) (ds : List Condition) → list_any p ds ≡ true → list_any p (put_condition c ds) ≡ true
+any_put p c [] h = absurd (false≢true h)
+any_put p c (d ∷ ds) h = any_put_by p c d ds (put_condition c ds) (condition_cmp c d) h (any_put p c ds)
+
+pub all_weaker : {X : Type 0} (p q : X → Bool) → ((x : X) → p x ≡ true → q x ≡ true) → (xs : List X) → list_all p xs ≡ true → list_all q xs ≡ true
+all_weaker p q f [] h = refl
+all_weaker p q f (x ∷ xs) h = and_from (q x) (list_all q xs) (f x (left (p x) (list_all p xs) h)) (all_weaker p q f xs (right (p x) (list_all p xs) h))
+
+any_here : (a b c d : Bool) → (a ≡ true → c ≡ true) → (b ≡ true → d ≡ true) → (a || b) ≡ true → (c || d) ≡ true
+any_here true b c d f g h = ap (λ e. e || d) (f refl)
+any_here false b c d f g h = or_right c d (g h)
+
+any_weaker : {X : Type 0} (p q : X → Bool) → ((x : X) → p x ≡ true → q x ≡ true) → (xs : List X) → list_any p xs ≡ true → list_any q xs ≡ true
+any_weaker p q f [] h = absurd (false≢true h)
+any_weaker p q f (x ∷ xs) h = any_here (p x) (list_any p xs) (q x) (list_any q xs) (f x) (any_weaker p q f xs) h
+
+abbrev meets_required : List Condition → KeyDecl → Bool
+meets_required conditions key = not (is_required key) || has_condition conditions key
+
+abbrev meets_any : List Condition → KeyDecl → Bool
+meets_any conditions key = is_any_of key && has_condition conditions key
+
+abbrev meets_some : List KeyDecl → List Condition → Bool
+meets_some keys conditions = not (list_any is_any_of keys) || list_any (meets_any conditions) keys
+
+met_put : (keys : List KeyDecl) (c : Condition) (ks : List Condition) → is_met keys ks ≡ true → is_met keys (put_condition c ks) ≡ true
+met_put keys c ks h =
+    and_from (list_all (meets_required (put_condition c ks)) keys) (meets_some keys (put_condition c ks))
+    (all_weaker (meets_required ks) (meets_required (put_condition c ks))
+    (λ key. or_weaker (not (is_required key)) (has_condition ks key) (has_condition (put_condition c ks) key) (any_put (is_on key) c ks)) keys
+    (left (list_all (meets_required ks) keys) (meets_some keys ks) h))
+    (or_weaker (not (list_any is_any_of keys)) (list_any (meets_any ks) keys) (list_any (meets_any (put_condition c ks)) keys)
+    (any_weaker (meets_any ks) (meets_any (put_condition c ks))
+    (λ key k. and_from (is_any_of key) (has_condition (put_condition c ks) key) (left (is_any_of key) (has_condition ks key) k) (any_put (is_on key) c ks (right (is_any_of key) (has_condition ks key) k))) keys)
+    (right (list_all (meets_required ks) keys) (meets_some keys ks) h))
+
+met_put_all : (keys : List KeyDecl) (fs ks : List Condition) → is_met keys ks ≡ true → is_met keys (put_all fs ks) ≡ true
+met_put_all keys [] ks h = h
+met_put_all keys (f ∷ fs) ks h = met_put keys f (put_all fs ks) (met_put_all keys fs ks h)
+
+-- ---- replies with further conditions
+
 -- all of these conditions are true of the fields of an item
 abbrev pub hold_of : List ColumnDecl → List Condition → Cell → Bool
 hold_of columns conditions item = list_all (λ condition. holds_of columns condition item) conditions
@@ -86,9 +144,30 @@ abbrev with_items : Reply → List Cell → Reply
 with_items r xs = record { items = xs; ending = r.ending }
 
 module _ (book : Book) (connection : List ℕ) (table : TableDecl) (d : ListDecl) (only : SubsetKeysOnlyFilter book connection table d) (version : ℕ) (parent : Option Cell) (ks : List Condition)
-    (canonical : Canonical ks) (sent : list_all (is_sent d.keys) ks ≡ true) where
+    (fit : fit_keys d.keys ks ≡ true) (fits : same_presence (is_some parent) (is_some d.parent) ≡ true) where
   abbrev reply_to : List Condition → Reply
   reply_to conditions = book.reply (list_key connection version table.name parent 1 conditions)
+
+  abbrev fit_sent : List Condition → Bool
+  fit_sent conditions = is_canonical conditions && list_all (is_sent d.keys) conditions
+
+  canonical : Canonical ks
+  canonical = left (is_canonical ks) (list_all (is_sent d.keys) ks) (left (fit_sent ks) (is_met d.keys ks) fit)
+
+  sent : list_all (is_sent d.keys) ks ≡ true
+  sent = right (is_canonical ks) (list_all (is_sent d.keys) ks) (left (fit_sent ks) (is_met d.keys ks) fit)
+
+  met : is_met d.keys ks ≡ true
+  met = right (fit_sent ks) (is_met d.keys ks) fit
+
+  -- the call with further conditions may be made
+  list_call : (fs : List Condition) → Scalars fs → list_all (is_sent d.keys) fs ≡ true → is_list_call d (put_all fs ks) parent ≡ true
+  list_call fs s k =
+      and_from (fit_keys d.keys (put_all fs ks)) (same_presence (is_some parent) (is_some d.parent))
+      (and_from (fit_sent (put_all fs ks)) (is_met d.keys (put_all fs ks))
+      (and_from (is_canonical (put_all fs ks)) (list_all (is_sent d.keys) (put_all fs ks)) (put_all_canonical fs ks s canonical) (put_all_all (is_sent d.keys) fs ks k sent))
+      (met_put_all d.keys fs ks met))
+      fits
 
   -- the reply with further conditions on keys that only filter
   pub reply_filtered : (fs : List Condition) → Scalars fs → list_all (is_sent d.keys) fs ≡ true → list_all (is_on_subset_key d.keys) fs ≡ true
@@ -97,7 +176,8 @@ module _ (book : Book) (connection : List ℕ) (table : TableDecl) (d : ListDecl
   reply_filtered (f ∷ fs) s k h =
       let s' : Scalars fs = right (is_scalar_condition f) (list_all is_scalar_condition fs) s in
       let k' : list_all (is_sent d.keys) fs ≡ true = right (is_sent d.keys f) (list_all (is_sent d.keys) fs) k in
-      let lawful = and_from (is_canonical (put_all fs ks)) (list_all (is_sent d.keys) (put_all fs ks)) (put_all_canonical fs ks s' canonical) (put_all_all (is_sent d.keys) fs ks k' sent) in
-      let first = only version 1 parent (put_all fs ks) f lawful (left (is_on_subset_key d.keys f) (list_all (is_on_subset_key d.keys) fs) h) in
+      let further : is_further d f ≡ true =
+      and_from (is_scalar f.value) (is_on_subset_key d.keys f) (left (is_scalar_condition f) (list_all is_scalar_condition fs) s) (left (is_on_subset_key d.keys f) (list_all (is_on_subset_key d.keys) fs) h) in
+      let first = only version 1 parent (put_all fs ks) f (list_call fs s' k') further in
       let later = reply_filtered fs s' k' (right (is_on_subset_key d.keys f) (list_all (is_on_subset_key d.keys) fs) h) in
       first ∙ ap (filtered_by table.columns f) later ∙ ap (with_items (reply_to ks)) (filter_filter (holds_of table.columns f) (hold_of table.columns fs) (reply_to ks).items)

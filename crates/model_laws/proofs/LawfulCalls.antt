@@ -10,14 +10,15 @@ use Rattle.std.specs.declared.cmp.Ordering.{Ordering}
 use Rattle.std.specs.declared.cmp.Ordering.TheVariants.{Less, Equal, Greater}
 use Rattle.sp_value.specs.Names.{names_of}
 use Rattle.sp_value.specs.declared.cell.Cell.{Cell}
+use Rattle.sp_model.specs.Names.{are_distinct}
 use Rattle.sp_model.proofs.PlainLists.{any_there}
 use Rattle.sp_model.specs.Calls.{used, reach, is_lawful, is_attempt, fit_keys, are_results_of, same_presence, is_lawful_list, is_lawful_parents, is_lawful_get, is_lawful_hydrate, is_lawful_by, is_wanted, decides_columns, on_again, attempts_in, calls_with, calls_of, used_item, reach_item, on_going, calls_all, calls_in, calls_of_walk, child_call, calls_by, pass_item, pass_parent}
-use Rattle.sp_model.specs.Hydration.{put_under, with_result, results_of, find_function, hydrated}
+use Rattle.sp_model.specs.Hydration.{put_under, with_result, results_of, find_function, hydrated, names_of_functions}
 use Rattle.sp_model.specs.Keys.{is_equality}
 use Rattle.sp_model.specs.RowOf.{has_name, columns_named}
 use Rattle.sp_model.specs.Settling.{Seen, Answers, rule_of, attempts_of, Verdict, Accept, Again, Refuse, Open, judged}
 use Rattle.sp_model.specs.Units.{flat_map}
-use Rattle.sp_model.specs.Walk.{start, visit_all, visit_item, visit_parent, Source, list_source, get_source, parent_source, parent_of}
+use Rattle.sp_model.specs.Walk.{start, visit_all, visit_item, visit_parent, unsteady, Source, list_source, get_source, parent_source, parent_of}
 use Rattle.sp_model.specs.declared.call.Call.{Call}
 use Rattle.sp_model.specs.declared.call.Call.TheVariants as call
 use Rattle.sp_model.specs.declared.call.Ending.{Ending}
@@ -37,8 +38,7 @@ use Rattle.sp_model.specs.declared.outcome.WalkState.{WalkState}
 use Rattle.sp_model.specs.declared.scan.Access.{Access}
 use Rattle.sp_model.specs.declared.scan.Access.TheVariants.{Get, List as OfList, Parents}
 use Rattle.sp_model.specs.declared.scan.ScanRequest.{ScanRequest}
-use Rattle.model_laws.specs.Covered.{are_distinct}
-use Rattle.model_laws.specs.LawfulScans.{are_lawful, has_attempts, is_lawful_get_scan, is_lawful_list_scan, has_parent_attempts, is_lawful_parents_scan, is_lawful_access, names_of_functions, LawfulScanMakesLawfulCalls}
+use Rattle.model_laws.specs.LawfulScans.{are_lawful, has_attempts, is_lawful_get_scan, is_lawful_list_scan, has_parent_attempts, is_lawful_parents_scan, is_lawful_access, LawfulScanMakesLawfulCalls}
 use Rattle.model_laws.proofs.FewerColumns.{bytes_itself}
 use Rattle.model_laws.proofs.Merging.{left, right}
 use Rattle.model_laws.proofs.Whole.{Means, ending_means}
@@ -242,9 +242,9 @@ module _ (table : TableDecl) (answers : Answers) where
     walk_lawful_in ignore retry source asked replies rule f zero attempt s one most = refl
     walk_lawful_in ignore retry source asked replies rule f (suc n) attempt s one most =
         let items : List Cell = (replies attempt).items in
-        let later : Calls = calls_in n visit calls source asked replies (suc attempt) s in
+        let later : Calls = calls_in n visit calls source asked replies (suc attempt) (unsteady s) in
         let after : list_all lawful (on_again (judged (rule_of table ignore retry) attempt (replies attempt).ending) later) ≡ true =
-        again_list table ignore retry lawful (replies attempt).ending later attempt (λ below. walk_lawful_in ignore retry source asked replies rule f n (suc attempt) s (omega arith) (omega arith)) in
+        again_list table ignore retry lawful (replies attempt).ending later attempt (λ below. walk_lawful_in ignore retry source asked replies rule f n (suc attempt) (unsteady s) (omega arith) (omega arith)) in
         let again : list_all lawful (on_again (judged source.rule attempt (replies attempt).ending) later) ≡ true =
         subst (λ r. list_all lawful (on_again (judged r attempt (replies attempt).ending) later) ≡ true) (sym rule) after in
         both_lawful ((asked, attempt) ∷ calls_all visit calls items s)

@@ -12,17 +12,11 @@ use Rattle.sp_value.specs.declared.cell.Cell.TheOpen.{Cell-F}
 use Rattle.sp_value.specs.declared.cell.Cell.TheViews.{out-Cell, roll-Cell}
 use Rattle.sp_value.specs.declared.truth.Op.{Op}
 use Rattle.sp_value.specs.declared.truth.Op.TheVariants.{Eq, Ne, Lt, Le, Gt, Ge}
-use Rattle.sp_model.specs.Conditions.{is_scalar_at, is_scalar, scalar_cmp_at, operator_rank, condition_cmp, is_before}
+use Rattle.sp_model.specs.Conditions.{is_scalar_at, is_scalar, value_rank, scalar_cmp_at, operator_rank, condition_cmp, is_before}
 use Rattle.sp_model.specs.Covers.{same_condition}
 use Rattle.sp_model.specs.declared.call.Condition.{Condition}
 
 -- ---- a total order that is that of the definitions on scalars
-
-abbrev rank_at : Cell-F Cell → ℕ
-rank_at (Cell-F.Bool b) = 0
-rank_at (Cell-F.Int z) = 1
-rank_at (Cell-F.Text t) = 2
-rank_at _ = 3
 
 abbrev bit : Bool → ℕ
 bit true = 1
@@ -41,10 +35,10 @@ text_at (Cell-F.Text t) = t
 text_at _ = []
 
 abbrev layer_cmp : Cell-F Cell → Cell-F Cell → Ordering
-layer_cmp = then_cmp (on rank_at nat_cmp) (then_cmp (on bit_at nat_cmp) (then_cmp (on int_at int_cmp) (on text_at (slice_cmp nat_cmp))))
+layer_cmp = then_cmp (on value_rank nat_cmp) (then_cmp (on bit_at nat_cmp) (then_cmp (on int_at int_cmp) (on text_at (slice_cmp nat_cmp))))
 
 layer_total : IsTotalOrder layer_cmp
-layer_total = then_total (on_total rank_at nat_cmp_total) (then_total (on_total bit_at nat_cmp_total) (then_total (on_total int_at int_cmp_total) (on_total text_at nat_list_cmp_total)))
+layer_total = then_total (on_total value_rank nat_cmp_total) (then_total (on_total bit_at nat_cmp_total) (then_total (on_total int_at int_cmp_total) (on_total text_at nat_list_cmp_total)))
 
 then_equal : (o : Ordering) → ordering_then o Equal ≡ o
 then_equal Less = refl

@@ -1,20 +1,24 @@
 -- A kept scan that covers a request has its rows.
-use Rattle.std.proofs.Common.{◌≡◌, ℕ, Bool, true, false, ◌&&◌, ◌||◌, not, List, [], filter, Option, Some, None, bytes_eq, refl, sym, ap, subst, ◌∙◌}
+use Rattle.std.proofs.Common.{◌≡◌, ℕ, Bool, true, false, ◌&&◌, ◌||◌, not, List, [], filter, Option, Some, None, is_some, bytes_eq, refl, sym, ap, subst, ◌∙◌}
 use Rattle.std.proofs.lemmas.Bool.{false≢true, not-true}
 use Rattle.std.specs.List.{list_all}
 use Rattle.sp_value.specs.declared.cell.Cell.{Cell}
+use Rattle.sp_model.specs.Requests.{is_positive}
+use Rattle.sp_model.specs.Names.{are_distinct}
 use Rattle.sp_model.specs.Book.{Book}
 use Rattle.sp_model.specs.Conditions.{is_canonical}
-use Rattle.sp_model.specs.Covers.{is_get, same_access, is_among, same_conditions, reaches, further, covers_same, covers_more, rows_from, in_columns}
-use Rattle.sp_model.specs.Keys.{is_sent}
-use Rattle.sp_model.specs.RowOf.{has_name, columns_named}
+use Rattle.sp_model.specs.Covers.{is_get, same_access, is_among, same_conditions, reaches, further, covers_same, covers_more, covers, rows_from, in_columns}
+use Rattle.sp_model.specs.Calls.{fit_keys, same_presence}
+use Rattle.sp_model.specs.Keys.{is_sent, is_met, list_access}
+use Rattle.sp_model.specs.RowOf.{has_name, columns_named, names_of_columns}
 use Rattle.sp_model.specs.Settling.{Answers, answers_of}
 use Rattle.sp_model.specs.SubsetKeys.{is_on_subset_key, list_key, SubsetKeysOnlyFilter}
-use Rattle.sp_model.specs.Walk.{meets, scan_walk, walk_value, is_complete, is_steady}
+use Rattle.sp_model.specs.Walk.{meets, scan_walk, walk_at, walk_value, scan_value, is_complete, is_steady}
 use Rattle.sp_model.specs.declared.call.Call.{Call}
 use Rattle.sp_model.specs.declared.call.Call.TheVariants as call
 use Rattle.sp_model.specs.declared.call.Condition.{Condition}
 use Rattle.sp_model.specs.declared.call.Reply.{Reply}
+use Rattle.sp_model.specs.declared.declaration.AccessDecl.{AccessDecl}
 use Rattle.sp_model.specs.declared.declaration.ListDecl.{ListDecl}
 use Rattle.sp_model.specs.declared.declaration.TableDecl.{TableDecl}
 use Rattle.sp_model.specs.declared.outcome.ScanValue.TheVariants.{Rows}
@@ -22,8 +26,8 @@ use Rattle.sp_model.specs.declared.outcome.Walk.{Walk}
 use Rattle.sp_model.specs.declared.scan.Access.{Access}
 use Rattle.sp_model.specs.declared.scan.Access.TheVariants.{Get, List as OfList, Parents}
 use Rattle.sp_model.specs.declared.scan.ScanRequest.{ScanRequest}
-use Rattle.model_laws.specs.Covered.{are_distinct, names_of_columns, is_positive, is_asked_of, only_filters, is_asked_of_list, OnlyFilters, CoveredScanGivesTheRows}
-use Rattle.model_laws.proofs.Covering.{Asked, Covering, covering_value, is_field}
+use Rattle.model_laws.specs.Covered.{is_asked_of, only_filters, is_asked_of_list, OnlyFilters, CoveredScanGivesTheRows}
+use Rattle.model_laws.proofs.Covering.{fits_access, Asked, Covering, covering_value, is_field}
 use Rattle.model_laws.proofs.FewerColumns.{bytes_same}
 use Rattle.model_laws.proofs.Filtering.{filter_all, hold_of, all_from, name_all, sent_on_subset, only_subset, reply_filtered}
 use Rattle.model_laws.proofs.Merging.{left, right, Canonical, all_scalar, all_filter, rest_none, merge, put_all, is_scalar_condition}
@@ -39,6 +43,12 @@ access_same OfList Get h = absurd (false≢true h)
 access_same OfList Parents h = absurd (false≢true h)
 access_same Parents Get h = absurd (false≢true h)
 access_same Parents OfList h = absurd (false≢true h)
+
+fits_list : (o : Option AccessDecl) (parent : Option Cell) → fits_access (list_access o) parent ≡ true → same_presence (is_some parent) (is_some o) ≡ true
+fits_list None None h = refl
+fits_list None (Some parent) h = absurd (false≢true h)
+fits_list (Some d) None h = absurd (false≢true h)
+fits_list (Some d) (Some parent) h = refl
 
 module _ (book : Book) (table : TableDecl) (kept request : ScanRequest) (version : ℕ) where
   abbrev answers : Answers
@@ -66,7 +76,7 @@ module _ (book : Book) (table : TableDecl) (kept request : ScanRequest) (version
   record Case : Type 0 where
     among : list_all (is_among request.conditions) kept.conditions ≡ true
     fields : list_all shows_field more ≡ true
-    lists : (parent : Option Cell) → Asked table kept request answers (call.List table.name kept.conditions parent) (call.List table.name request.conditions parent)
+    lists : (parent : Option Cell) → fits_access request.access parent ≡ true → Asked table kept request answers (call.List table.name kept.conditions parent) (call.List table.name request.conditions parent)
     gets : is_get request.access ≡ true → Asked table kept request answers (call.Get table.name kept.conditions) (call.Get table.name request.conditions)
     plain : is_complete scan ≡ false → Plain (in_columns (columns_named kept.columns table.columns) (columns_named request.columns table.columns)) (meets more (columns_named request.columns table.columns)) kept.limit request.limit
 
@@ -91,7 +101,7 @@ module _ (book : Book) (table : TableDecl) (kept request : ScanRequest) (version
       record {
         among = among;
         fields = ap (list_all shows_field) none;
-        lists = λ parent. same_asked none same (λ cs. call.List table.name cs parent);
+        lists = λ parent fits. same_asked none same (λ cs. call.List table.name cs parent);
         gets = λ g. same_asked none same (λ cs. call.Get table.name cs);
         plain = λ e. record {
           all = λ cells. ap (λ fs. meets fs (columns_named request.columns table.columns) cells) none;
@@ -106,7 +116,7 @@ module _ (book : Book) (table : TableDecl) (kept request : ScanRequest) (version
 
   record More : Type 0 where
     fields : list_all shows_field more ≡ true
-    lists : (parent : Option Cell) → Asked table kept request answers (call.List table.name kept.conditions parent) (call.List table.name request.conditions parent)
+    lists : (parent : Option Cell) → fits_access request.access parent ≡ true → Asked table kept request answers (call.List table.name kept.conditions parent) (call.List table.name request.conditions parent)
 
   asked_from : (parent : Option Cell) → book.reply (list_key kept.connection version table.name parent 1 request.conditions)
       ≡ record { items = filter (hold_of table.columns more) (book.reply (list_key kept.connection version table.name parent 1 kept.conditions)).items; ending = (book.reply (list_key kept.connection version table.name parent 1 kept.conditions)).ending }
@@ -115,6 +125,12 @@ module _ (book : Book) (table : TableDecl) (kept request : ScanRequest) (version
       let items_of : Reply → List Cell = λ r. r.items in
       record { items = ap items_of e; ending = ap (λ (r : Reply). Some r.ending) e }
 
+  abbrev by_list : ListDecl → ScanRequest → Bool
+  by_list d r = same_access r.access (list_access d.parent)
+
+  keys_of : (d : ListDecl) (r : ScanRequest) → is_asked_of_list table d r ≡ true → fit_keys d.keys r.conditions ≡ true
+  keys_of d r h = right (by_list d r) (fit_keys d.keys r.conditions) (left (by_list d r && fit_keys d.keys r.conditions) (list_all (only_filters table d) r.subset) h)
+
   more_of : (l : Option ListDecl) → kept.connection ≡ request.connection → OnlyFilters book table kept request l → Canonical kept.conditions → Canonical request.conditions
       → list_all (is_among request.conditions) kept.conditions ≡ true → list_all is_named_subset more ≡ true → More
   more_of None connection o canon canon' among named = absurd o
@@ -122,9 +138,14 @@ module _ (book : Book) (table : TableDecl) (kept request : ScanRequest) (version
       let lists : (is_asked_of_list table d kept && is_asked_of_list table d request) ≡ true = o.1 in
       let first : is_asked_of_list table d kept ≡ true = left (is_asked_of_list table d kept) (is_asked_of_list table d request) lists in
       let second : is_asked_of_list table d request ≡ true = right (is_asked_of_list table d kept) (is_asked_of_list table d request) lists in
-      let sent : list_all (is_sent d.keys) kept.conditions ≡ true = left (list_all (is_sent d.keys) kept.conditions) (list_all (only_filters table d) kept.subset) first in
-      let sent' : list_all (is_sent d.keys) request.conditions ≡ true = left (list_all (is_sent d.keys) request.conditions) (list_all (only_filters table d) request.subset) second in
-      let only : list_all (only_filters table d) request.subset ≡ true = right (list_all (is_sent d.keys) request.conditions) (list_all (only_filters table d) request.subset) second in
+      let fit : fit_keys d.keys kept.conditions ≡ true = keys_of d kept first in
+      let fit' : fit_keys d.keys request.conditions ≡ true = keys_of d request second in
+      let sent' : list_all (is_sent d.keys) request.conditions ≡ true =
+      right (is_canonical request.conditions) (list_all (is_sent d.keys) request.conditions)
+      (left (is_canonical request.conditions && list_all (is_sent d.keys) request.conditions) (is_met d.keys request.conditions) fit') in
+      let only : list_all (only_filters table d) request.subset ≡ true = right (by_list d request && fit_keys d.keys request.conditions) (list_all (only_filters table d) request.subset) second in
+      let access : request.access ≡ list_access d.parent =
+      access_same request.access (list_access d.parent) (left (by_list d request) (fit_keys d.keys request.conditions) (left (by_list d request && fit_keys d.keys request.conditions) (list_all (only_filters table d) request.subset) second)) in
       let left_out : Condition → Bool = λ k. not (is_among kept.conditions k) in
       let only_filters_on : Condition → Bool = λ k. only_filters table d k.column in
       let more_sent : list_all (is_sent d.keys) more ≡ true = all_filter (is_sent d.keys) (λ k. not (is_among kept.conditions k)) request.conditions sent' in
@@ -140,9 +161,9 @@ module _ (book : Book) (table : TableDecl) (kept request : ScanRequest) (version
       let merged : put_all more kept.conditions ≡ request.conditions = merge request.conditions kept.conditions canon' canon among in
       record {
         fields = more_fields;
-        lists = λ parent. asked_from parent
+        lists = λ parent fits. asked_from parent
             (ap (λ cs. book.reply (list_key kept.connection version table.name parent 1 cs)) (sym merged)
-            ∙ reply_filtered book kept.connection table d filters version parent kept.conditions canon sent more more_scalar more_sent more_subset);
+            ∙ reply_filtered book kept.connection table d filters version parent kept.conditions fit (fits_list d.parent parent (subst (λ a. fits_access a parent ≡ true) access fits)) more more_scalar more_sent more_subset);
       }
 
   get_not : (b : Bool) → b ≡ false → b ≡ true → ⊥
@@ -174,6 +195,7 @@ module _ (book : Book) (table : TableDecl) (kept request : ScanRequest) (version
   value_of : (rows : List (List Cell)) → Case → are_distinct (names_of_columns table.columns) ≡ true → list_all (has_name kept.columns) request.columns ≡ true → kept.access ≡ request.access
       → is_asked_of table kept ≡ true → is_asked_of table request ≡ true → is_steady scan ≡ true → walk_value scan ≡ Some (Rows rows)
       → walk_value (scan_walk table request answers) ≡ Some (Rows (rows_from table kept rows request))
+  unfolding rows_from
   value_of rows k distinct fewer access ask ask' steady value =
       let covering : Covering table kept request answers = record {
         distinct = distinct;
@@ -190,6 +212,7 @@ module _ (book : Book) (table : TableDecl) (kept request : ScanRequest) (version
       covering_value table kept request answers covering rows access steady k.plain value
 
 pub covered : CoveredScanGivesTheRows
+unfolding walk_at scan_value covers rows_from
 covered book table kept request version rows distinct asked only steady covers value =
     let complete : Bool = is_complete (scan_walk table kept (answers_of book kept.connection version)) in
     let a : Bool = bytes_eq kept.connection request.connection in

@@ -4,11 +4,12 @@ use Rattle.std.proofs.lemmas.Bool.{false≢true, ltb-true}
 use Rattle.std.specs.List.{list_all}
 use Rattle.sp_value.specs.Patterns.{fits_some}
 use Rattle.sp_value.specs.declared.cell.Cell.{Cell}
+use Rattle.sp_model.specs.Rests.{rests_by, rests_in, rests, rests_some, column_rests}
 use Rattle.sp_model.proofs.Lawful.{whole_settles}
 use Rattle.sp_model.specs.Hydration.{with_result, results_of, with_results, find_function, called, hydrated_in, outcome_of, hydrate_call, hydrated}
 use Rattle.sp_model.specs.RowOf.{columns_named, column_of, source_of, column_value, with_cell, row_of}
 use Rattle.sp_model.specs.Settling.{Answers, whole, rule_of, is_ignored, is_retried, attempts_of, settled, Verdict, Accept, Again, Refuse, Open, judged}
-use Rattle.sp_model.specs.Walk.{start, and_then, meets, is_reached, with_row_kept, with_row, visit_item, visit_all, Source, accepted, ended, unsteady, walk_in, walk, list_source, get_source, parent_source, parent_of, visit_parent, walk_by, walk_value}
+use Rattle.sp_model.specs.Walk.{start, and_then, meets, is_reached, with_row_kept, with_row, visit_item, visit_all, Source, accepted, ended, unsteady, walk_in, walk, list_source, get_source, parent_source, parent_of, visit_parent, walk_by, walk_value, walk_at, scan_value}
 use Rattle.sp_model.specs.declared.call.Call.{Call}
 use Rattle.sp_model.specs.declared.call.Call.TheVariants as call
 use Rattle.sp_model.specs.declared.call.Condition.{Condition}
@@ -37,7 +38,7 @@ use Rattle.sp_model.specs.declared.scan.Access.TheVariants.{Get, List as OfList,
 use Rattle.sp_model.specs.declared.scan.Cause.TheVariants.{TooMany}
 use Rattle.sp_model.specs.declared.scan.ScanRequest.{ScanRequest}
 use Rattle.model_laws.proofs.Merging.{left, right}
-use Rattle.model_laws.specs.WholeBook.{rests_by, rests_in, rests, rests_some, column_rests, WholeBookHydrates, WholeBookHasValues}
+use Rattle.model_laws.specs.WholeBook.{WholeBookHydrates, WholeBookHasValues}
 
 -- ---- functions
 
@@ -221,6 +222,7 @@ whole_hydrates book table connection version item name h =
     known_hydrated table (λ asked attempt. book.reply (record { connection = connection; version = version; call = asked; attempt = attempt })) item name h
 
 pub whole_values : WholeBookHasValues
+unfolding walk_at scan_value
 whole_values book table request (Bad text) h = refl
 whole_values book table request (Is v) h =
     let replies : Replies = λ asked attempt. book.reply (record { connection = request.connection; version = v; call = asked; attempt = attempt }) in

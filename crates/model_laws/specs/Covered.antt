@@ -4,9 +4,12 @@ use Rattle.std.specs.List.{list_all}
 use Rattle.sp_value.specs.declared.cell.Cell.{Cell}
 use Rattle.sp_model.specs.Book.{Book}
 use Rattle.sp_model.specs.Conditions.{is_canonical}
-use Rattle.sp_model.specs.Covers.{is_get, covers, rows_from}
-use Rattle.sp_model.specs.Keys.{is_sent}
-use Rattle.sp_model.specs.RowOf.{has_name, columns_named}
+use Rattle.sp_model.specs.Calls.{fit_keys}
+use Rattle.sp_model.specs.Covers.{is_get, same_access, covers, rows_from}
+use Rattle.sp_model.specs.Keys.{list_access}
+use Rattle.sp_model.specs.Names.{has_name, are_distinct}
+use Rattle.sp_model.specs.Requests.{is_positive}
+use Rattle.sp_model.specs.RowOf.{names_of_columns, columns_named}
 use Rattle.sp_model.specs.Settling.{answers_of}
 use Rattle.sp_model.specs.SubsetKeys.{is_subset, SubsetKeysOnlyFilter}
 use Rattle.sp_model.specs.Walk.{scan_walk, scan_value, is_complete, is_steady}
@@ -16,18 +19,6 @@ use Rattle.sp_model.specs.declared.declaration.ListDecl.{ListDecl}
 use Rattle.sp_model.specs.declared.declaration.TableDecl.{TableDecl}
 use Rattle.sp_model.specs.declared.outcome.ScanValue.TheVariants.{Rows}
 use Rattle.sp_model.specs.declared.scan.ScanRequest.{ScanRequest}
-
--- each name once
-abbrev pub are_distinct : List (List ℕ) → Bool
-are_distinct [] = true
-are_distinct (name ∷ names) = not (has_name names name) && are_distinct names
-
-abbrev pub names_of_columns : List ColumnDecl → List (List ℕ)
-names_of_columns columns = map (λ column. column.name) columns
-
-abbrev pub is_positive : Option ℕ → Bool
-is_positive None = true
-is_positive (Some limit) = nat_le 1 limit
 
 -- a request as it is made of a table: its conditions are in canonical order and on columns that it asks for, and its limit, if any, is at least 1
 abbrev pub is_asked_of : TableDecl → ScanRequest → Bool
@@ -42,9 +33,11 @@ only_filters table d name =
     list_all (λ key. not (bytes_eq key.column name) || is_subset key.matching) d.keys
     && list_all (λ column. not (bytes_eq column.name name) || is_none column.function) table.columns
 
--- the conditions are sent on the keys of the list, and the columns that the request names as such only filter
+-- a request as it is made of a list: by the list or by its parents, as it declares, with conditions that are sent on its keys and meet them, and the columns that the request
+-- names as subset only filter
 abbrev pub is_asked_of_list : TableDecl → ListDecl → ScanRequest → Bool
-is_asked_of_list table d request = list_all (is_sent d.keys) request.conditions && list_all (only_filters table d) request.subset
+is_asked_of_list table d request =
+    same_access request.access (list_access d.parent) && fit_keys d.keys request.conditions && list_all (only_filters table d) request.subset
 
 -- the table has a list, both requests are made of it, and its subset keys only filter
 abbrev pub OnlyFilters : Book → TableDecl → ScanRequest → ScanRequest → Option ListDecl → Type 0

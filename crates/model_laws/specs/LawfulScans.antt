@@ -2,7 +2,9 @@
 use Rattle.std.specs.Prelude.{◌≡◌, ℕ, Bool, true, false, ◌&&◌, nat_le, List, ◌∷◌, ◌++◌, map, Option, Some, None, is_none}
 use Rattle.std.specs.List.{list_all}
 use Rattle.sp_model.specs.Calls.{fit_keys, is_lawful, used, reach}
+use Rattle.sp_model.specs.Hydration.{names_of_functions}
 use Rattle.sp_model.specs.Keys.{is_equality}
+use Rattle.sp_model.specs.Names.{are_distinct}
 use Rattle.sp_model.specs.Settling.{Answers, rule_of, attempts_of}
 use Rattle.sp_model.specs.declared.call.Call.{Call}
 use Rattle.sp_model.specs.declared.call.Condition.{Condition}
@@ -15,7 +17,6 @@ use Rattle.sp_model.specs.declared.declaration.TableDecl.{TableDecl}
 use Rattle.sp_model.specs.declared.scan.Access.{Access}
 use Rattle.sp_model.specs.declared.scan.Access.TheVariants.{Get, List as OfList, Parents}
 use Rattle.sp_model.specs.declared.scan.ScanRequest.{ScanRequest}
-use Rattle.model_laws.specs.Covered.{are_distinct}
 
 -- the call has an attempt at least
 abbrev pub has_attempts : TableDecl → Option (List (List ℕ)) → Option Retry → Bool
@@ -42,9 +43,6 @@ abbrev pub is_lawful_access : TableDecl → List Condition → Access → Bool
 is_lawful_access table conditions Get = is_lawful_get_scan table conditions table.get
 is_lawful_access table conditions OfList = is_lawful_list_scan table conditions table.list
 is_lawful_access table conditions Parents = is_lawful_parents_scan table conditions table.list
-
-abbrev pub names_of_functions : List FunctionDecl → List (List ℕ)
-names_of_functions functions = map (λ f. f.name) functions
 
 -- such an access, and functions of different names
 abbrev pub is_lawful_scan : TableDecl → ScanRequest → Bool

@@ -1,5 +1,5 @@
 -- Calls that may be made, the calls that a scan's value rests on, and those that a scan may come to make.
-use Rattle.std.specs.Prelude.{ℕ, zero, suc, ◌-◌, Bool, true, false, ◌&&◌, ◌||◌, not, nat_le, List, [], ◌∷◌, ◌++◌, length, map, filter, Option, Some, None, is_some, option_map, bytes_eq}
+use Rattle.std.specs.Prelude.{ℕ, zero, suc, ◌-◌, Bool, false, ◌&&◌, ◌||◌, not, nat_le, List, [], ◌∷◌, ◌++◌, length, map, filter, Option, Some, None, is_some, option_map, bytes_eq}
 use Rattle.std.specs.List.{list_any, list_all}
 use Rattle.sp_value.specs.Names.{names_of}
 use Rattle.sp_value.specs.declared.cell.Cell.{Cell}
@@ -22,7 +22,6 @@ use Rattle.sp_model.specs.declared.declaration.ListDecl.{ListDecl}
 use Rattle.sp_model.specs.declared.declaration.Retry.{Retry}
 use Rattle.sp_model.specs.declared.declaration.TableDecl.{TableDecl}
 use Rattle.sp_model.specs.declared.outcome.Outcome.{Outcome}
-use Rattle.sp_model.specs.declared.outcome.Outcome.TheVariants.{Gave, Fails}
 use Rattle.sp_model.specs.declared.outcome.Results.{Results}
 use Rattle.sp_model.specs.declared.outcome.Results.TheVariants.{Given, Missed, Pending}
 use Rattle.sp_model.specs.declared.outcome.Walk.{Walk}
