@@ -9,10 +9,10 @@ ghost use Rattle.plugin_kit.specs.Replies.{line_text, items_text, ending_line, r
 
 use crate::routes::Routes;
 use crate::stop::Unwritten;
-use plugin_lines::{Line, Request, reply_line};
 use sp_model::{Asked, CallKey, Ending, Reply, Version};
 use sp_outside::{Sink, write_all};
 use sp_value::{Cell, Memory, Text, TryCopy};
+use sp_world::{Line, Request, reply_line};
 use std::alloc::Global;
 
 /// The bytes of a line, with its line feed.

@@ -6,8 +6,8 @@ ghost use Rattle.plugin_kit.specs.Steps.{bad_line, IsLineAnswered, StopsAtLine};
 use crate::answering::answer;
 use crate::routes::Routes;
 use crate::stop::{Stop, Unwritten};
-use plugin_lines::{LineFault, Request, read_request};
 use sp_outside::Sink;
+use sp_world::{LineFault, Request, read_request};
 use sqlite_items::Items;
 use std::alloc::Global;
 

@@ -18,6 +18,9 @@ pub trait Child<W: World> {
     ghost use Rattle.std.specs.Prelude.{ℕ, List, Bool};
     ghost use Rattle.sp_outside.specs.declared.log.Event.{Event};
 
+    /// The name of the connection that it was made for.
+    ghost connection: { Self → List ℕ };
+
     /// What happened at it, where W tells.
     ghost log: { Self → List Event };
 
@@ -41,6 +44,7 @@ pub trait Child<W: World> {
         ensures log { IsTrue W.tells → log self.new ≡ (if is_ok result then log self.old ++ Event.Started ∷ [] else log self.old) }
         ensures runs { runs self.new ≡ is_ok result }
         ensures kept { (sends self.new ≡ sends self.old) × (gives self.new ≡ gives self.old) × (last self.new ≡ last self.old) }
+        ensures own { connection self.new ≡ connection self.old }
         ensures cause { HasCause (faulted self.old) (faulted self.new) result };
 
     /// Sends one line.
@@ -49,6 +53,7 @@ pub trait Child<W: World> {
         ensures sent { sends self.new ≡ up (sends self.old) }
         ensures stopped { runs self.old ≡ false → IsErr result }
         ensures kept { (runs self.new ≡ runs self.old) × (gives self.new ≡ gives self.old) × (last self.new ≡ last self.old) }
+        ensures own { connection self.new ≡ connection self.old }
         ensures cause { HasCause (faulted self.old) (faulted self.new) result };
 
     /// Gives the next line, of at most 1,048,576 bytes. After `Memory` it is still to come.
@@ -63,6 +68,7 @@ pub trait Child<W: World> {
         ensures short { IfOk result (λ line. length line.items ≤ 1048576) }
         ensures stopped { runs self.old ≡ false → result ≡ Err ChildEnd.Failed }
         ensures kept { (runs self.new ≡ runs self.old) × (sends self.new ≡ sends self.old) }
+        ensures own { connection self.new ≡ connection self.old }
         ensures later { faulted self.old ≤ faulted self.new }
         ensures failed { result ≡ Err ChildEnd.Failed → Rose (faulted self.old) (faulted self.new) };
 

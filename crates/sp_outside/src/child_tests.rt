@@ -2,7 +2,7 @@ ghost use Rattle.std.specs.Prelude.{◌≡◌, ◌<◌, ◌∷◌, ◌≤◌, �
 ghost use Rattle.sp_value.specs.declared.cell.Cell as c;
 ghost use Rattle.sp_world.specs.RequestLines.{IsRequestForm};
 
-use crate::{BookChild, BookNursery, Child, Nursery};
+use crate::{BookChild, BookNursery, Child, ChildScript, Nursery};
 use serde_json::{Value, json};
 use sp_model::{Asked, Call, CallKey, Connection, Ending, Reply, Version};
 use sp_value::{Cell, Members, Memory, Text};
@@ -128,7 +128,8 @@ fn next_after<W: World, C: Child<W>>(
 fn a_child_gives_lines_in_the_order_of_the_picks(rt: HostRuntime) -> Result<(), Fail> {
     let alloc = rt.alloc();
     let picks = Items::from_slice(alloc, &[0, 1, 2, 0, 5])?;
-    let mut child = BookChild::<Scripted>::new(alloc, picks, Items::new(alloc));
+    let name = Text::from_str(alloc, "c")?;
+    let mut child = BookChild::<Scripted>::new(alloc, name, picks, Items::new(alloc));
     child.start()?;
     let line = next_after(alloc, &mut child, &parents(alloc, 1, 1)?)?;
     assert!(rt; line.as_slice() == br#"{"id":1,"item":{}}"#.as_slice());
@@ -151,7 +152,8 @@ fn a_child_gives_lines_in_the_order_of_the_picks(rt: HostRuntime) -> Result<(), 
 fn a_child_that_was_not_started_fails(rt: HostRuntime) -> Result<(), Fail> {
     let alloc = rt.alloc();
     let fails = Items::from_slice(alloc, &[0])?;
-    let mut child = BookChild::<Scripted>::new(alloc, Items::new(alloc), fails);
+    let name = Text::from_str(alloc, "c")?;
+    let mut child = BookChild::<Scripted>::new(alloc, name, Items::new(alloc), fails);
     assert!(rt; child.start().is_err());
     assert!(rt; child.send(b"{}").is_err());
     child.start()?;
@@ -175,21 +177,34 @@ fn raise<W: World, N: Nursery<W>>(
     Ok(())
 }
 
-#[test]
-#[tactic(auto, using(crate::proofs::Scripted::scripted_forms))]
-fn a_nursery_has_the_children_that_came_back(rt: HostRuntime) -> Result<(), Fail> {
-    let alloc = rt.alloc();
-    let connection = Connection {
-        name: Text::from_str(alloc, "c")?,
+fn named(alloc: Global, name: &str) -> Result<Connection, Memory> {
+    Ok(Connection {
+        name: Text::from_str(alloc, name)?,
         plugin: Text::from_str(alloc, "p")?,
         command: Items::new(alloc),
         aggregator: false,
         connections: Items::new(alloc),
         members: Items::new(alloc),
-    };
-    let mut nursery = BookNursery::<Scripted>::new(alloc, Items::new(alloc), Items::new(alloc));
-    raise::<Scripted, BookNursery<Scripted>>(alloc, &mut nursery, &connection)?;
-    assert_eq!(rt; nursery.children().len(), 1);
-    assert_eq!(rt; nursery.children()[0].events().len(), 1);
+    })
+}
+
+#[test]
+#[tactic(auto, using(crate::proofs::Scripted::scripted_forms))]
+fn a_nursery_has_the_children_that_came_back(rt: HostRuntime) -> Result<(), Fail> {
+    let alloc = rt.alloc();
+    let mut scripts = Items::new(alloc);
+    scripts.push(ChildScript {
+        connection: Text::from_str(alloc, "d")?,
+        picks: Items::new(alloc),
+        fails: Items::from_slice(alloc, &[0])?,
+    })?;
+    let mut nursery = BookNursery::<Scripted>::new(alloc, scripts);
+    for name in ["c", "d"] {
+        let connection = named(alloc, name)?;
+        raise::<Scripted, BookNursery<Scripted>>(alloc, &mut nursery, &connection)?;
+    }
+    assert_eq!(rt; nursery.children().len(), 2);
+    assert_eq!(rt; nursery.children()[0].faults(), 0);
+    assert_eq!(rt; nursery.children()[1].faults(), 1);
     Ok(())
 }

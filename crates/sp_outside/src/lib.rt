@@ -5,6 +5,7 @@ mod book_child;
 mod book_log;
 mod book_nursery;
 mod child;
+mod child_script;
 #[cfg(test)]
 mod child_tests;
 mod clock;
@@ -24,6 +25,7 @@ mod tests;
 pub use book_child::BookChild;
 pub use book_nursery::BookNursery;
 pub use child::{Child, ChildEnd};
+pub use child_script::ChildScript;
 pub use clock::{Clock, ClockPass};
 pub use failing::Failed;
 pub use log::{Event, Loss, OpenCall, PendingCalls};

@@ -21,6 +21,7 @@ pub trait Nursery<W: World> {
 
     /// Makes a child for a connection, not started, with counts of 0.
     fn make(&mut self, alloc: Global, connection: &Connection) -> Result<Self::Kid, Memory>
+        ensures own { IfOk result (λ child. Self.Kid.connection child ≡ connection.now.name) }
         ensures log { IsTrue W.tells → IfOk result (λ child. Self.Kid.log child ≡ []) }
         ensures stands { IfOk result (λ child. Self.Kid.runs child ≡ false) }
         ensures counts { IfOk result (λ child. (Self.Kid.faulted child ≡ 0) × (Self.Kid.sends child ≡ 0) × (Self.Kid.gives child ≡ 0)) }

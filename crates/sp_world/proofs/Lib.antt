@@ -1,4 +1,6 @@
 mod LineTexts
 mod RequestTexts
-mod Calls
-pub mod OddNumbers
+mod TwoMembers
+mod Rounds
+mod Holes
+mod OddNumbers

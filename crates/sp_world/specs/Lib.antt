@@ -5,4 +5,5 @@ pub mod ReplyLines
 pub mod Told
 pub mod Fits
 pub mod RequestLines
+pub mod LineParts
 pub mod Kept

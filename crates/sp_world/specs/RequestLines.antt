@@ -1,5 +1,5 @@
 -- Request lines.
-use Rattle.std.specs.Prelude.{◌≡◌, ℕ, ◌^◌, ◌<◌, ◌&&◌, Bool, true, List, [], ◌∷◌, map, codes, bytes_eq, nat_lt, if◌then◌else◌, Option, Some, None, IsSome, ◌≤◌, Result, option_and_then, option_map}
+use Rattle.std.specs.Prelude.{◌≡◌, ℕ, ◌^◌, ◌<◌, ◌&&◌, Bool, true, List, [], ◌∷◌, ◌++◌, map, codes, bytes_eq, nat_lt, if◌then◌else◌, Option, Some, None, IsSome, ◌≤◌, Result, option_and_then, option_map}
 use Rattle.serde_json.specs.Data.{Data, null, boolean, number, string, array, object, unsigned, Items, no_items, item, Members, no_members, member}
 use Rattle.serde_json.specs.Find.{get, at, as_str, as_i64}
 use Rattle.serde_json.specs.View.{items_of}
@@ -56,48 +56,59 @@ abbrev pub function_data : Option (List ℕ) → Data
 function_data None = null
 function_data (Some name) = string name
 
-abbrev pub list_data : ℕ → CallKey → Data → List ℕ → Data → Data → Data
-list_data id key function table conditions parent = object (members_from (
-    (codes "attempt", natural key.attempt) ∷ (codes "conditions", conditions) ∷ (codes "connection", string key.connection) ∷ (codes "function", function)
-    ∷ (codes "id", natural id) ∷ (codes "op", string (codes "list")) ∷ (codes "parent", parent) ∷ (codes "table", string table) ∷ (codes "version", natural key.version) ∷ []))
+abbrev pub selecting_before : CallKey → Data → Data → List (List ℕ × Data)
+selecting_before key function conditions =
+    (codes "attempt", natural key.attempt) ∷ (codes "conditions", conditions) ∷ (codes "connection", string key.connection) ∷ (codes "function", function) ∷ []
 
-abbrev pub parents_data : ℕ → CallKey → Data → List ℕ → Data
-parents_data id key function table = object (members_from (
-    (codes "attempt", natural key.attempt) ∷ (codes "connection", string key.connection) ∷ (codes "function", function)
-    ∷ (codes "id", natural id) ∷ (codes "op", string (codes "parents")) ∷ (codes "table", string table) ∷ (codes "version", natural key.version) ∷ []))
+abbrev pub naming_before : CallKey → Data → List (List ℕ × Data)
+naming_before key function = (codes "attempt", natural key.attempt) ∷ (codes "connection", string key.connection) ∷ (codes "function", function) ∷ []
 
-abbrev pub get_data : ℕ → CallKey → Data → List ℕ → Data → Data
-get_data id key function table conditions = object (members_from (
-    (codes "attempt", natural key.attempt) ∷ (codes "conditions", conditions) ∷ (codes "connection", string key.connection) ∷ (codes "function", function)
-    ∷ (codes "id", natural id) ∷ (codes "op", string (codes "get")) ∷ (codes "table", string table) ∷ (codes "version", natural key.version) ∷ []))
+abbrev pub list_behind : CallKey → List ℕ → Data → List (List ℕ × Data)
+list_behind key table parent = (codes "op", string (codes "list")) ∷ (codes "parent", parent) ∷ (codes "table", string table) ∷ (codes "version", natural key.version) ∷ []
 
-abbrev pub hydrate_data : ℕ → CallKey → Data → List ℕ → Data → Data → Data
-hydrate_data id key function table row results = object (members_from (
-    (codes "attempt", natural key.attempt) ∷ (codes "connection", string key.connection) ∷ (codes "function", function)
-    ∷ (codes "id", natural id) ∷ (codes "item", row) ∷ (codes "op", string (codes "hydrate")) ∷ (codes "results", results) ∷ (codes "table", string table) ∷ (codes "version", natural key.version) ∷ []))
+abbrev pub table_behind : List ℕ → CallKey → List ℕ → List (List ℕ × Data)
+table_behind operation key table = (codes "op", string operation) ∷ (codes "table", string table) ∷ (codes "version", natural key.version) ∷ []
 
-abbrev pub call_data : ℕ → CallKey → Data → Call → Data
-call_data id key function (call.List table conditions parent) = list_data id key function table (conditions_data conditions) (parent_data parent)
-call_data id key function (call.Parents table) = parents_data id key function table
-call_data id key function (call.Get table conditions) = get_data id key function table (conditions_data conditions)
-call_data id key function (call.Hydrate table own row results) = hydrate_data id key function table (data_of row) (object (pairs_data results))
+abbrev pub hydrate_behind : CallKey → List ℕ → Data → Data → List (List ℕ × Data)
+hydrate_behind key table row results =
+    (codes "item", row) ∷ (codes "op", string (codes "hydrate")) ∷ (codes "results", results) ∷ (codes "table", string table) ∷ (codes "version", natural key.version) ∷ []
 
-abbrev pub version_data : ℕ → List ℕ → ℕ → Data
-version_data id connection tick = object (members_from (
-    (codes "connection", string connection) ∷ (codes "id", natural id) ∷ (codes "op", string (codes "version")) ∷ (codes "tick", natural tick) ∷ []))
+abbrev pub connection_before : List ℕ → List (List ℕ × Data)
+connection_before connection = (codes "connection", string connection) ∷ []
 
-abbrev pub declare_data : ℕ → List ℕ → Data
-declare_data id connection = object (members_from (
-    (codes "connection", string connection) ∷ (codes "id", natural id) ∷ (codes "op", string (codes "declare")) ∷ []))
+abbrev pub version_behind : ℕ → List (List ℕ × Data)
+version_behind tick = (codes "op", string (codes "version")) ∷ (codes "tick", natural tick) ∷ []
 
--- the JSON of a request
-abbrev pub asked_data : ℕ → Option (List ℕ) → Asked → Data
-asked_data id function (asked.Call key) = call_data id key (function_data function) key.call
-asked_data id function (asked.Version connection tick) = version_data id connection tick
-asked_data id function (asked.Declare connection) = declare_data id connection
+abbrev pub declare_behind : List (List ℕ × Data)
+declare_behind = (codes "op", string (codes "declare")) ∷ []
 
+-- the members before the number: of a call its attempt, the conditions of a list or a get, the connection and the line's function
+abbrev pub call_before : CallKey → Data → Call → List (List ℕ × Data)
+call_before key function (call.List table conditions parent) = selecting_before key function (conditions_data conditions)
+call_before key function (call.Parents table) = naming_before key function
+call_before key function (call.Get table conditions) = selecting_before key function (conditions_data conditions)
+call_before key function (call.Hydrate table own row results) = naming_before key function
+
+abbrev pub members_before : Option (List ℕ) → Asked → List (List ℕ × Data)
+members_before function (asked.Call key) = call_before key (function_data function) key.call
+members_before function (asked.Version connection tick) = connection_before connection
+members_before function (asked.Declare connection) = connection_before connection
+
+-- those behind it
+abbrev pub call_behind : CallKey → Call → List (List ℕ × Data)
+call_behind key (call.List table conditions parent) = list_behind key table (parent_data parent)
+call_behind key (call.Parents table) = table_behind (codes "parents") key table
+call_behind key (call.Get table conditions) = table_behind (codes "get") key table
+call_behind key (call.Hydrate table own row results) = hydrate_behind key table (data_of row) (object (pairs_data results))
+
+abbrev pub members_behind : Asked → List (List ℕ × Data)
+members_behind (asked.Call key) = call_behind key key.call
+members_behind (asked.Version connection tick) = version_behind tick
+members_behind (asked.Declare connection) = declare_behind
+
+-- the JSON of a request: an object whose members stand in the order of their names
 abbrev pub request_data : Request → Data
-request_data (Ask id what function) = asked_data id function what
+request_data (Ask id what function) = object (members_from (members_before function what ++ (codes "id", natural id) ∷ members_behind what))
 
 -- its one spelling
 abbrev pub request_text : Request → List ℕ

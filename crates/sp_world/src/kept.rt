@@ -1,75 +1,71 @@
 ghost use Rattle.std.specs.Prelude.{◌≡◌, IsTrue};
-ghost use Rattle.sp_world.specs.Kept.{IsKeptForm, IsKeptVersion};
+ghost use Rattle.sp_world.specs.Kept.{IsKeptForm, IsKeptValue};
 
+use crate::kept_scan::KeptScan;
 use crate::world::World;
 use sp_model::ScanNote;
 use sp_value::Rows;
 use std::marker::{Model, PhantomData};
 
-/// A finished scan: its note, its rows, and whether it came to the ending of its calls and not to its limit. Contracts see the three.
+/// A finished scan that was steady. Contracts see what is kept; where the world tells, that is the book's.
 #[derive(Drop)]
 pub struct Kept<W: World> {
-    note: ScanNote,
-    rows: Rows,
-    complete: bool,
+    scan: KeptScan,
     of: PhantomData<W>,
 }
 
 impl<W: World> Model for Kept<W> {
-    ghost use Rattle.std.specs.Prelude.{List, Bool, IsTrue};
-    ghost use Rattle.std.specs.Coded.{codes};
-    ghost use Rattle.sp_value.specs.declared.cell.Cell.{Cell};
-    ghost use Rattle.sp_value.specs.contracts.cell.Cell as cells;
-    ghost use Rattle.sp_model.specs.declared.scan.ScanNote.{ScanNote};
-    ghost use Rattle.sp_world.specs.Kept.{IsKeptForm, IsKeptVersion};
+    ghost use Rattle.std.specs.Prelude.{IsTrue};
+    ghost use Rattle.sp_world.specs.declared.kept_scan.KeptScan.{KeptScan};
+    ghost use Rattle.sp_world.specs.contracts.kept_scan.KeptScan as kept_scans;
+    ghost use Rattle.sp_world.specs.Kept.{IsKeptForm, IsKeptValue};
 
-    ghost Value = { ScanNote × List (List Cell) × Bool };
+    ghost Value = { KeptScan };
 
-    ghost coded = { Prim.hlevel (codes, cells.the_row.coded) };
+    ghost coded = { kept_scans.the_row.coded };
 
-    ghost view = { λ k. (k.note, k.rows, k.complete) };
+    ghost view = { λ k. k.scan };
 
-    ghost invariant = { λ k. IsKeptForm k.note k.rows × (IsTrue W.tells → IsKeptVersion W.book k.note) };
+    ghost invariant = { λ k. IsKeptForm k.scan × (IsTrue W.tells → IsKeptValue W.book k.scan) };
 }
 
 impl<W: World> Kept<W> {
-    /// The scan of a note, with its rows. Each row has one cell for each column of the note's request, and the note's ticks are at most 2^62.
-    /// Where the world tells, the note's version is the book's at the tick at which it was asked.
-    pub fn of(note: ScanNote, rows: Rows, complete: bool) -> Kept<W>
-        requires form { IsKeptForm note rows }
-        requires told { IsTrue W.tells → IsKeptVersion W.book note }
-        ensures { result ≡ (note, rows, complete) }
+    /// What is kept of a scan. Each row has one cell for each column of the note's request, and the note's ticks are at most 2^62.
+    /// Where the world tells, the note's version is the book's at the tick at which it was asked, and the rows are those of the book's
+    /// table of that name at that version, by a steady walk, complete exactly where that came to the ending of its calls.
+    pub fn of(scan: KeptScan) -> Kept<W>
+        requires form { IsKeptForm scan }
+        requires told { IsTrue W.tells → IsKeptValue W.book scan }
+        ensures { result ≡ scan }
     {
         Kept {
-            note,
-            rows,
-            complete,
+            scan,
             of: PhantomData,
         }
     }
 
     /// The note.
     pub fn note(&self) -> &ScanNote
-        ensures value { result.now ≡ self.now.0 }
-        ensures form { IsKeptForm self.now.0 self.now.1 }
-        ensures told { IsTrue W.tells → IsKeptVersion W.book self.now.0 }
+        ensures value { result.now ≡ self.now.note }
+        ensures form { IsKeptForm self.now }
+        ensures told { IsTrue W.tells → IsKeptValue W.book self.now }
     {
-        &self.note
+        &self.scan.note
     }
 
     /// The rows.
     pub fn rows(&self) -> &Rows
-        ensures value { result.now ≡ self.now.1 }
-        ensures form { IsKeptForm self.now.0 self.now.1 }
-        ensures told { IsTrue W.tells → IsKeptVersion W.book self.now.0 }
+        ensures value { result.now ≡ self.now.rows }
+        ensures form { IsKeptForm self.now }
+        ensures told { IsTrue W.tells → IsKeptValue W.book self.now }
     {
-        &self.rows
+        &self.scan.rows
     }
 
     /// Whether the scan came to the ending of its calls.
     pub fn complete(&self) -> bool
-        ensures { result ≡ self.now.2 }
+        ensures { result ≡ self.now.complete }
     {
-        self.complete
+        self.scan.complete
     }
 }

@@ -2,11 +2,20 @@
 #![tactic(auto)]
 
 mod kept;
+mod kept_scan;
 mod line;
 mod line_json;
+mod line_reading;
+#[cfg(test)]
+mod line_tests;
 mod operation;
+#[cfg(test)]
+mod page_tests;
+mod parts;
 mod reply_lines;
+mod request_json;
 mod request_lines;
+mod request_members;
 mod request_reading;
 #[cfg(test)]
 mod tests;
@@ -15,10 +24,14 @@ mod untold;
 mod world;
 
 pub use kept::Kept;
+pub use kept_scan::KeptScan;
 pub use line::{Line, LineFault, Request};
 pub use line_json::{flag_at, number_at, read_json, spell, text_at};
+pub use line_reading::read_line;
+pub use parts::{LineParts, line_parts};
 pub use reply_lines::{is_shallow_object, item_from, made, reply_line};
-pub use request_lines::{conditions_json, operator_text, request_line, text_json};
+pub use request_json::{conditions_json, operator_text, text_json};
+pub use request_lines::request_line;
 pub use request_reading::read_request;
 pub use told::{Said, Told, ToldLine};
 pub use untold::Untold;

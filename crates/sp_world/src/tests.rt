@@ -1,8 +1,9 @@
-use crate::{Kept, Told, Untold};
+use crate::{Kept, KeptScan, Told, Untold};
 use sp_model::{Access, Asked, Mark, ScanNote, ScanRequest, Version};
 use sp_value::{Rows, Text};
 use sqlite_items::Items;
 use std::alloc::Global;
+use std::sync::Arc;
 use std::test::Fail;
 
 fn text(alloc: Global, words: &str) -> Result<Text, Fail> {
@@ -16,9 +17,10 @@ fn what_is_told_is_lent(rt: HostRuntime) -> Result<(), Fail> {
         connection: text(rt.alloc(), "c")?,
         tick: 3,
     };
-    let told: Told<Untold, Version> = Told::of(asked, Version::Is(7));
+    let told: Told<Untold, Version> = Told::of(Arc::new(rt.alloc(), asked)?, Version::Is(7));
     assert!(rt; matches!(told.get(), Version::Is(7)));
     assert!(rt; matches!(told.asked(), Asked::Version { tick: 3, .. }));
+    assert!(rt; matches!(told.into_value(), Version::Is(7)));
     Ok(())
 }
 
@@ -40,7 +42,12 @@ fn a_kept_scan_lends_its_note_and_rows(rt: HostRuntime) -> Result<(), Fail> {
         version: Version::Is(7),
         mark: Mark::Fresh,
     };
-    let kept: Kept<Untold> = Kept::of(note, Rows::new(rt.alloc()), true);
+    let scan = KeptScan {
+        note,
+        rows: Rows::new(rt.alloc()),
+        complete: true,
+    };
+    let kept: Kept<Untold> = Kept::of(scan);
     assert_eq!(rt; kept.note().asked, 3);
     assert!(rt; kept.rows().as_slice().is_empty());
     assert!(rt; kept.complete());

@@ -1,9 +1,12 @@
 ghost use Rattle.std.specs.Prelude.{◌≡◌, IsTrue};
+ghost use Rattle.std.specs.Arc.{arc_value};
 
 use crate::world::World;
 use serde_json::Value;
 use sp_model::{Asked, Piece, Version};
+use std::alloc::Global;
 use std::marker::{Model, PhantomData};
+use std::sync::Arc;
 
 /// What can be told of a book.
 pub trait Said: Drop {
@@ -49,10 +52,10 @@ pub enum ToldLine<W: World> {
     Declaration(Told<W, Value>),
 }
 
-/// A piece, version or declaration beside what was asked.
+/// A piece, version or declaration beside what was asked, which all that is told of one call share.
 #[derive(Drop)]
 pub struct Told<W: World, T: Said> {
-    asked: Asked,
+    asked: Arc<Asked, Global>,
     value: T,
     of: PhantomData<W>,
 }
@@ -60,6 +63,7 @@ pub struct Told<W: World, T: Said> {
 impl<W: World, T: Said> Model for Told<W, T> {
     ghost use Rattle.std.specs.Prelude.{IsTrue};
     ghost use Rattle.sp_model.specs.declared.call.Asked.{Asked};
+    ghost use Rattle.std.specs.Arc.{arc_value};
     ghost use Rattle.std.specs.Coded.{codes};
     ghost use Rattle.sp_value.specs.contracts.cell.Cell as cells;
 
@@ -67,16 +71,16 @@ impl<W: World, T: Said> Model for Told<W, T> {
 
     ghost coded = { Prim.hlevel (codes, cells.the_row.coded) };
 
-    ghost view = { λ t. (t.asked, t.value) };
+    ghost view = { λ t. (arc_value t.asked, t.value) };
 
-    ghost invariant = { λ t. (IsTrue W.tells → T.is_of W.book t.asked t.value) × T.is_sound t.value };
+    ghost invariant = { λ t. (IsTrue W.tells → T.is_of W.book (arc_value t.asked) t.value) × T.is_sound t.value };
 }
 
 impl<W: World, T: Said> Told<W, T> {
-    pub fn of(asked: Asked, value: T) -> Told<W, T>
-        requires told { IsTrue W.tells → T.is_of W.book asked value }
+    pub fn of(asked: Arc<Asked, Global>, value: T) -> Told<W, T>
+        requires told { IsTrue W.tells → T.is_of W.book (arc_value asked) value }
         requires sound { T.is_sound value }
-        ensures { result ≡ (asked, value) }
+        ensures { result ≡ (arc_value asked, value) }
     {
         Told {
             asked,
@@ -99,5 +103,13 @@ impl<W: World, T: Said> Told<W, T> {
         ensures sound { T.is_sound self.now.1 }
     {
         &self.asked
+    }
+    /// The value, moved out.
+    pub fn into_value(self) -> T
+        ensures value { result ≡ self.1 }
+        ensures told { IsTrue W.tells → T.is_of W.book self.0 self.1 }
+        ensures sound { T.is_sound self.1 }
+    {
+        self.value
     }
 }

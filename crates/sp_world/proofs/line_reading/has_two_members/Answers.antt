@@ -2,8 +2,8 @@ use Rattle.std.proofs.Common.{ap, ◌∙◌, sym, nat_eq}
 use Rattle.serde_json.specs.View.{view}
 use Rattle.serde_json.proofs.Views.{view-Object}
 use Rattle.sp_world.specs.ReplyLines.{has_two_members}
-use Rattle.plugin_lines.proofs.TwoMembers.{two_entries}
-use Rattle.plugin_lines.proofs.reading.has_two_members.Goals as goal
+use Rattle.sp_world.proofs.TwoMembers.{two_entries}
+use Rattle.sp_world.proofs.line_reading.has_two_members.Goals as goal
 
 pub returns-in-Object : goal.returns-in-Object
 returns-in-Object c =

@@ -1,6 +1,6 @@
 use Rattle.serde_json.proofs.Views.{view-Array}
 use Rattle.sp_world.proofs.RequestTexts.{all_written, conditions_back, conditions_no_float, conditions_whole, conditions_depth}
-use Rattle.sp_world.proofs.request_lines.conditions_json.Goals as goal
+use Rattle.sp_world.proofs.request_json.conditions_json.Goals as goal
 
 pub returns-clause-value : goal.returns-clause-value
 returns-clause-value c =

@@ -4,11 +4,11 @@ ghost use Rattle.serde_json.specs.Data.{object};
 ghost use Rattle.sp_value.specs.Json.{has_odd_number};
 ghost use Rattle.sp_world.specs.ReplyLines.{seen, line_of, line_of_data, line_with, item_line, end_line, error_line, version_line, declaration_line, has_two_members, SaysUnlessMemory, IsLineForm};
 
+use crate::line::{Line, LineFault};
+use crate::line_json::{flag_at, number_at, read_json, text_at};
+use crate::reply_lines::{is_shallow_object, item_from};
 use serde_json::Value;
 use sp_value::Memory;
-use sp_world::{
-    Line, LineFault, flag_at, is_shallow_object, item_from, number_at, read_json, text_at,
-};
 use std::alloc::Global;
 
 /// The reply line that bytes are: `Json` where they are no JSON, else `Number` where a number is no integer of 64 bits with a sign, else
@@ -119,7 +119,7 @@ fn version_line(id: u64, value: &Value) -> Option<Line>
     }
 }
 
-#[tactic(auto, using(sp_world::proofs::OddNumbers::whole_member))]
+#[tactic(auto, using(crate::proofs::OddNumbers::whole_member))]
 fn declaration_line(alloc: Global, id: u64, value: &Value) -> Result<Option<Line>, Memory>
     requires whole { has_odd_number (view value.now) ≡ false }
     requires below { id < 2 ^ 63 }

@@ -1,7 +1,7 @@
 use Rattle.serde_json.specs.View.{members_view}
 use Rattle.serde_json.proofs.Views.{view-Object}
 use Rattle.sp_world.proofs.RequestTexts.{results_back, results_depth, results_whole, results_no_float}
-use Rattle.sp_world.proofs.request_lines.results_json.Goals as goal
+use Rattle.sp_world.proofs.request_json.results_json.Goals as goal
 
 pub returns-clause-back : goal.returns-clause-back
 returns-clause-back c = rw view-Object (results_back (members_view c.in_ok-map.map.entries) c.args.results.now c.in_ok-map.ensures.reads_back)
