@@ -7,8 +7,8 @@ use Rattle.std.specs.List.{list_any}
 use Rattle.sp_value.specs.Patterns.{fits_some}
 use Rattle.sp_value.specs.declared.cell.Cell.{Cell}
 use Rattle.sp_model.proofs.PlainLists.{any_there}
-use Rattle.sp_model.specs.Calls.{needs_in, depends_of}
-use Rattle.sp_model.specs.Hydration.{results_of, with_result, with_results, find_function, called, hydrated_in}
+use Rattle.sp_model.specs.Calls.{needs_in}
+use Rattle.sp_model.specs.Hydration.{results_of, with_result, with_results, find_function, depends_of, called, hydrated_in}
 use Rattle.sp_model.specs.Laws.{CallHasAtMostItsAttempts, WholeCallIsSettled, IgnoredErrorKeepsItems, HydrationNeedsItsDependencies}
 use Rattle.sp_model.specs.Settling.{Seen, whole, is_ignored, is_retried, attempts_of, Verdict, Accept, Again, Refuse, Open, judged, settled_by, settled_in}
 use Rattle.sp_model.specs.Walk.{and_then, visit_all, ended, unsteady, walk_in}
@@ -59,7 +59,7 @@ known : (rule : Rule) (a : ℕ) (e : Ending) → judged rule a (Some e) ≡ Open
 known rule a End h = cc
 known rule a (Error text) h = never_open (is_ignored rule.ignore text) (is_retried rule.retry a text) text h
 
-again_below : (rule : Rule) (a : ℕ) (e : Ending) → judged rule a (Some e) ≡ Again → a < attempts_of rule.retry
+pub again_below : (rule : Rule) (a : ℕ) (e : Ending) → judged rule a (Some e) ≡ Again → a < attempts_of rule.retry
 again_below rule a End h = cc
 again_below rule a (Error text) h = retried_below rule.retry a text (again_retried (is_ignored rule.ignore text) (is_retried rule.retry a text) text h)
 
@@ -94,7 +94,8 @@ found_if name g f rest true e h later =
     ap (λ k. k.name) (sym same) ∙ (bytes_eq-Decides g.name name).0 e
 found_if name g f rest false e h later = later h
 
-found_name : (name : List ℕ) (fs : List FunctionDecl) (f : FunctionDecl) → find_function name fs ≡ Some f → f.name ≡ name
+-- a function that is found has the name
+pub found_name : (name : List ℕ) (fs : List FunctionDecl) (f : FunctionDecl) → find_function name fs ≡ Some f → f.name ≡ name
 found_name name [] f h = cc
 found_name name (g ∷ gs) f h = found_if name g f (find_function name gs) (bytes_eq g.name name) refl h (found_name name gs f)
 

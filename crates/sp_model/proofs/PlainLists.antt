@@ -1,7 +1,7 @@
 -- The scan of a plain table is its items in order.
 use Rattle.std.proofs.Math.Bool.{or-true}
 use Rattle.std.proofs.lemmas.List.{append-nil, append_assoc}
-use Rattle.std.proofs.Common.{◌≡◌, ℕ, suc, Bool, true, false, ◌&&◌, ◌||◌, List, [], ◌∷◌, ◌++◌, map, length, Option, Some, None, is_none, cond, refl, sym, ◌∙◌, ap, subst, arith}
+use Rattle.std.proofs.Common.{◌≡◌, ℕ, suc, Bool, true, false, ◌&&◌, ◌||◌, List, [], ◌∷◌, ◌++◌, length, Option, Some, None, is_none, cond, refl, sym, ◌∙◌, ap, subst, arith}
 use Rattle.std.specs.List.{list_all, list_any}
 use Rattle.sp_value.specs.declared.cell.Cell.{Cell}
 use Rattle.sp_model.specs.Fields.{field}
@@ -10,7 +10,7 @@ use Rattle.sp_model.specs.Hydration.{hydrated}
 use Rattle.sp_model.specs.PlainList.{is_plain_list, is_plain, plain_request, plain_key, has_no_function, plain_cell, plain_row, plain_end, plain_next, plain_rows, plain_value, PlainListIsItsItems}
 use Rattle.sp_model.specs.RowOf.{column_of, source_of, with_cell, row_of, has_name, columns_named, checked}
 use Rattle.sp_model.specs.Settling.{Answers, answers_of, judged, or_else}
-use Rattle.sp_model.specs.Walk.{start, and_then, visit_all, visit_item, with_row, is_reached, walk_value, walk, list_source, Source, ended}
+use Rattle.sp_model.specs.Walk.{start, and_then, visit_all, visit_item, with_row, is_reached, walk_value, walk, list_source, Source, ended, walk_at, scan_value}
 use Rattle.sp_model.specs.declared.call.Call.TheVariants as call
 use Rattle.sp_model.specs.declared.call.Ending.{Ending}
 use Rattle.sp_model.specs.declared.call.Ending.TheVariants.{End, Error}
@@ -184,6 +184,7 @@ source_is table list h found =
     ∙ ap (λ r. record { function = list.function; rule = record { ignore = None; retry = r }; single = false }) retry
 
 pub plain_list : PlainListIsItsItems
+unfolding scan_value walk_at
 plain_list book connection table list names limit version h found =
     let reply : Reply = book.reply (plain_key connection version table.name) in
     let columns : List ColumnDecl = columns_named names table.columns in

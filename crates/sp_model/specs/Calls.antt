@@ -1,15 +1,15 @@
 -- Calls that may be made, the calls that a scan's value rests on, and those that a scan may come to make.
-use Rattle.std.specs.Prelude.{ℕ, zero, suc, ◌-◌, Bool, true, false, ◌&&◌, ◌||◌, not, nat_le, List, [], ◌∷◌, ◌++◌, length, map, filter, Option, Some, None, is_some, bytes_eq}
+use Rattle.std.specs.Prelude.{ℕ, zero, suc, ◌-◌, Bool, false, ◌&&◌, ◌||◌, not, nat_le, List, [], ◌∷◌, ◌++◌, length, map, filter, Option, Some, None, is_some, option_map, bytes_eq}
 use Rattle.std.specs.List.{list_any, list_all}
 use Rattle.sp_value.specs.Names.{names_of}
 use Rattle.sp_value.specs.declared.cell.Cell.{Cell}
 use Rattle.sp_model.specs.Conditions.{is_canonical}
-use Rattle.sp_model.specs.Hydration.{results_of, find_function, hydrated}
+use Rattle.sp_model.specs.Hydration.{gave, results_of, find_function, depends_of, hydrated}
 use Rattle.sp_model.specs.Keys.{is_sent, is_met, is_equality}
 use Rattle.sp_model.specs.RowOf.{has_name, columns_named, column_value}
 use Rattle.sp_model.specs.Settling.{Seen, Answers, rule_of, attempts_of, Verdict, Accept, Again, Refuse, Open, judged}
 use Rattle.sp_model.specs.Units.{flat_map}
-use Rattle.sp_model.specs.Walk.{start, visit_all, visit_item, visit_parent, Source, list_source, get_source, parent_source, parent_of, walk}
+use Rattle.sp_model.specs.Walk.{start, visit_all, visit_item, visit_parent, unsteady, Source, list_source, get_source, parent_source, parent_of, walk}
 use Rattle.sp_model.specs.declared.call.Call.{Call}
 use Rattle.sp_model.specs.declared.call.Call.TheVariants as call
 use Rattle.sp_model.specs.declared.call.Condition.{Condition}
@@ -22,7 +22,6 @@ use Rattle.sp_model.specs.declared.declaration.ListDecl.{ListDecl}
 use Rattle.sp_model.specs.declared.declaration.Retry.{Retry}
 use Rattle.sp_model.specs.declared.declaration.TableDecl.{TableDecl}
 use Rattle.sp_model.specs.declared.outcome.Outcome.{Outcome}
-use Rattle.sp_model.specs.declared.outcome.Outcome.TheVariants.{Gave, Fails}
 use Rattle.sp_model.specs.declared.outcome.Results.{Results}
 use Rattle.sp_model.specs.declared.outcome.Results.TheVariants.{Given, Missed, Pending}
 use Rattle.sp_model.specs.declared.outcome.Walk.{Walk}
@@ -78,21 +77,28 @@ is_lawful_by table (call.Hydrate name function item results) attempt =
 abbrev pub is_lawful : List TableDecl → Call → ℕ → Bool
 is_lawful tables asked attempt = list_any (λ table. is_lawful_by table asked attempt) tables
 
--- ---- functions that count
+-- the function that a table declares for a call; the call of a function names its own
+abbrev pub function_of : TableDecl → Call → Option (List ℕ)
+function_of table (call.List name conditions parent) = option_map (λ d. d.function) table.list
+function_of table (call.Parents name) = option_map (λ d. d.function) (parent_of table.list)
+function_of table (call.Get name conditions) = option_map (λ d. d.function) table.get
+function_of table (call.Hydrate name function item results) = Some function
 
-abbrev pub gave : Option Outcome → Bool
-gave None = false
-gave (Some (Gave x)) = true
-gave (Some (Fails cause)) = false
+abbrev pub same_function : Option (List ℕ) → Option (List ℕ) → Bool
+same_function (Some a) (Some b) = bytes_eq a b
+same_function _ _ = false
+
+-- a call of a declared table, asked by a line that names the function which the table declares for it
+abbrev pub is_lawful_request : List TableDecl → Call → ℕ → Option (List ℕ) → Bool
+is_lawful_request tables asked attempt function =
+    list_any (λ table. is_lawful_by table asked attempt && same_function function (function_of table asked)) tables
+
+-- ---- functions that count
 
 -- these up to the first that gave nothing, and `here` where all gave
 abbrev pub decides_some : (List ℕ → Bool) → (List ℕ → Option Outcome) → List (List ℕ) → Bool → Bool
 decides_some decides gives [] here = here
 decides_some decides gives (name ∷ names) here = decides name || (gave (gives name) && decides_some decides gives names here)
-
-abbrev pub depends_of : Option FunctionDecl → List (List ℕ)
-depends_of None = []
-depends_of (Some f) = f.depends
 
 -- the call of g decides what f gives: of a function that fails by a dependency only the dependencies up to that one count
 abbrev pub decides_in : ℕ → List FunctionDecl → (List ℕ → Option Outcome) → List ℕ → List ℕ → Bool
@@ -177,7 +183,7 @@ calls_in zero visit calls source asked replies attempt s = []
 calls_in (suc n) visit calls source asked replies attempt s =
     (asked, attempt) ∷ calls_all visit calls (replies attempt).items s
     ++ on_going (visit_all visit (replies attempt).items s)
-    (λ t. on_again (judged source.rule attempt (replies attempt).ending) (calls_in n visit calls source asked replies (suc attempt) s))
+    (λ t. on_again (judged source.rule attempt (replies attempt).ending) (calls_in n visit calls source asked replies (suc attempt) (unsteady s)))
 
 abbrev pub calls_of_walk : (Cell → WalkState → Walk) → (Cell → WalkState → List (Call × ℕ)) → Source → Call → Answers → WalkState → List (Call × ℕ)
 calls_of_walk visit calls source asked answers s = calls_in (suc (attempts_of source.rule.retry - 1)) visit calls source asked (answers asked) 1 s

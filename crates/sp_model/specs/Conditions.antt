@@ -1,7 +1,7 @@
 -- Conditions in canonical order.
 use Rattle.std.specs.Prelude.{ℕ, Bool, true, false, ◌&&◌, List, [], ◌∷◌}
 use Rattle.std.specs.declared.cmp.Ordering.{Ordering}
-use Rattle.std.specs.declared.cmp.Ordering.TheVariants.{Less, Equal, Greater}
+use Rattle.std.specs.declared.cmp.Ordering.TheVariants.{Less, Greater}
 use Rattle.std.specs.Ordering.{nat_cmp, int_cmp, bool_cmp, match_ordering}
 use Rattle.std.specs.Cmp.Lexicographic.{slice_cmp}
 use Rattle.sp_value.specs.declared.cell.Cell.{Cell}
@@ -21,19 +21,20 @@ is_scalar_at _ = false
 abbrev pub is_scalar : Cell → Bool
 is_scalar c = is_scalar_at (out-Cell c)
 
+-- booleans, integers and texts, and then all other values
+abbrev pub value_rank : Cell-F Cell → ℕ
+value_rank (Cell-F.Bool b) = 0
+value_rank (Cell-F.Int z) = 1
+value_rank (Cell-F.Text t) = 2
+value_rank _ = 3
+
 abbrev pub scalar_cmp_at : Cell-F Cell → Cell-F Cell → Ordering
 scalar_cmp_at (Cell-F.Bool a) (Cell-F.Bool b) = bool_cmp a b
-scalar_cmp_at (Cell-F.Bool a) (Cell-F.Int b) = Less
-scalar_cmp_at (Cell-F.Bool a) (Cell-F.Text b) = Less
-scalar_cmp_at (Cell-F.Int a) (Cell-F.Bool b) = Greater
 scalar_cmp_at (Cell-F.Int a) (Cell-F.Int b) = int_cmp a b
-scalar_cmp_at (Cell-F.Int a) (Cell-F.Text b) = Less
-scalar_cmp_at (Cell-F.Text a) (Cell-F.Bool b) = Greater
-scalar_cmp_at (Cell-F.Text a) (Cell-F.Int b) = Greater
 scalar_cmp_at (Cell-F.Text a) (Cell-F.Text b) = slice_cmp nat_cmp a b
-scalar_cmp_at _ _ = Equal
+scalar_cmp_at x y = nat_cmp (value_rank x) (value_rank y)
 
--- booleans before integers before texts, texts by their bytes
+-- booleans before integers before texts before all other values, which it doesn't tell apart; texts by their bytes
 abbrev pub scalar_cmp : Cell → Cell → Ordering
 scalar_cmp x y = scalar_cmp_at (out-Cell x) (out-Cell y)
 

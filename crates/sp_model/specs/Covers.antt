@@ -57,7 +57,7 @@ covers_more kept complete request =
     && list_all (λ condition. has_name request.subset condition.column) (further kept request)
 
 -- a kept scan serves a request
-abbrev pub covers : ScanRequest → Bool → ScanRequest → Bool
+unfoldable pub covers : ScanRequest → Bool → ScanRequest → Bool
 covers kept complete request =
     bytes_eq kept.connection request.connection && bytes_eq kept.table request.table && same_access kept.access request.access
     && list_all (has_name kept.columns) request.columns
@@ -72,7 +72,7 @@ cut None xs = xs
 cut (Some limit) xs = take limit xs
 
 -- a kept scan's rows in the request's columns, without those for which a further condition isn't true, cut to its limit
-abbrev pub rows_from : TableDecl → ScanRequest → List (List Cell) → ScanRequest → List (List Cell)
+unfoldable pub rows_from : TableDecl → ScanRequest → List (List Cell) → ScanRequest → List (List Cell)
 rows_from table kept rows request =
     let from : List ColumnDecl = columns_named kept.columns table.columns in
     let to : List ColumnDecl = columns_named request.columns table.columns in

@@ -1,7 +1,6 @@
 -- What the functions of a row give, one call after another.
-use Rattle.std.specs.Prelude.{ℕ, zero, suc, List, [], ◌∷◌, length, Option, Some, None, if◌then◌else◌, bytes_eq}
-use Rattle.std.specs.Ordering.{nat_cmp, match_ordering}
-use Rattle.std.specs.Cmp.Lexicographic.{slice_cmp}
+use Rattle.std.specs.Prelude.{ℕ, zero, suc, Bool, true, false, List, [], ◌∷◌, length, map, Option, Some, None, if◌then◌else◌, bytes_eq}
+pub use Rattle.sp_value.specs.Names.{put_under}
 use Rattle.sp_value.specs.declared.cell.Cell.{Cell}
 use Rattle.sp_value.specs.declared.cell.Cell as c
 use Rattle.sp_model.specs.Settling.{Answers, rule_of, settled}
@@ -16,10 +15,11 @@ use Rattle.sp_model.specs.declared.outcome.Settled.{Settled}
 use Rattle.sp_model.specs.declared.outcome.Settled.TheVariants.{Items, Refused}
 use Rattle.sp_model.specs.declared.scan.Cause.TheVariants.{Error, TooMany}
 
--- a value put under a name, among values whose names rise
-abbrev pub put_under : {X : Type 0} → List ℕ → X → List (List ℕ × X) → List (List ℕ × X)
-put_under name x [] = (name, x) ∷ []
-put_under name x (m ∷ ms) = match_ordering (slice_cmp nat_cmp name m.0) ((name, x) ∷ m ∷ ms) ((name, x) ∷ ms) (m ∷ put_under name x ms)
+-- something was given, be it null
+abbrev pub gave : Option Outcome → Bool
+gave None = false
+gave (Some (Gave x)) = true
+gave (Some (Fails cause)) = false
 
 -- a result beside those of the functions after it: the first failure stays, and what isn't known yet hides what comes after it
 abbrev pub with_result : List ℕ → Option Outcome → Results → Results
@@ -43,6 +43,13 @@ with_results Pending call = None
 abbrev pub find_function : List ℕ → List FunctionDecl → Option FunctionDecl
 find_function name [] = None
 find_function name (f ∷ fs) = if bytes_eq f.name name then Some f else find_function name fs
+
+abbrev pub depends_of : Option FunctionDecl → List (List ℕ)
+depends_of None = []
+depends_of (Some f) = f.depends
+
+abbrev pub names_of_functions : List FunctionDecl → List (List ℕ)
+names_of_functions functions = map (λ f. f.name) functions
 
 abbrev pub called : (FunctionDecl → List (List ℕ × Cell) → Option Outcome) → (List ℕ → Option Outcome) → Option FunctionDecl → Option Outcome
 called call gives None = None

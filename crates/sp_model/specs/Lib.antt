@@ -2,12 +2,15 @@ pub mod Book
 pub mod Calls
 pub mod Conditions
 pub mod Covers
+pub mod Delays
 pub mod Fields
 pub mod Hydration
 pub mod Keys
 pub mod Laws
 pub mod Names
 pub mod PlainList
+pub mod Requests
+pub mod Rests
 pub mod RowOf
 pub mod Sayable
 pub mod Settling

@@ -1,6 +1,6 @@
--- Which texts may be names.
-use Rattle.std.specs.Prelude.{ℕ, ◌==◌, Bool, false, ◌&&◌, ◌||◌, List, [], ◌∷◌, length, nat_le}
-use Rattle.std.specs.List.{list_all}
+-- Which texts may be names, and lists of names.
+use Rattle.std.specs.Prelude.{ℕ, ◌==◌, Bool, true, false, ◌&&◌, ◌||◌, not, List, [], ◌∷◌, length, nat_le, bytes_eq}
+use Rattle.std.specs.List.{list_any, list_all}
 
 abbrev pub is_plain_byte : ℕ → Bool
 is_plain_byte b = nat_le 32 b && (nat_le b 126 || nat_le 128 b)
@@ -24,3 +24,13 @@ is_word (b ∷ bs) = is_small_letter b && list_all is_word_byte bs
 -- such a word of 63 bytes at most
 abbrev pub is_connection_name : List ℕ → Bool
 is_connection_name name = nat_le (length name) 63 && is_word name
+
+-- ---- lists of names
+
+abbrev pub has_name : List (List ℕ) → List ℕ → Bool
+has_name names name = list_any (bytes_eq name) names
+
+-- each name once
+abbrev pub are_distinct : List (List ℕ) → Bool
+are_distinct [] = true
+are_distinct (name ∷ names) = not (has_name names name) && are_distinct names

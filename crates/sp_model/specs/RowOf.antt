@@ -1,9 +1,9 @@
 -- The row of an item.
-use Rattle.std.specs.Prelude.{ℕ, Bool, List, [], ◌∷◌, filter, Option, Some, None, if◌then◌else◌, bytes_eq}
-use Rattle.std.specs.List.{list_any}
+use Rattle.std.specs.Prelude.{ℕ, List, [], ◌∷◌, filter, map, Option, Some, None, if◌then◌else◌}
 use Rattle.sp_value.specs.declared.cell.Cell.{Cell}
 use Rattle.sp_value.specs.declared.kind.Kind.{Kind}
 use Rattle.sp_model.specs.Fields.{field, is_of_kind}
+pub use Rattle.sp_model.specs.Names.{has_name}
 use Rattle.sp_model.specs.declared.declaration.ColumnDecl.{ColumnDecl}
 use Rattle.sp_model.specs.declared.outcome.Outcome.{Outcome}
 use Rattle.sp_model.specs.declared.outcome.Outcome.TheVariants.{Gave, Fails}
@@ -11,8 +11,8 @@ use Rattle.sp_model.specs.declared.outcome.Row.{Row}
 use Rattle.sp_model.specs.declared.outcome.Row.TheVariants.{Whole, Broken}
 use Rattle.sp_model.specs.declared.scan.Cause.TheVariants.{BadValue}
 
-abbrev pub has_name : List (List ℕ) → List ℕ → Bool
-has_name names name = list_any (bytes_eq name) names
+abbrev pub names_of_columns : List ColumnDecl → List (List ℕ)
+names_of_columns columns = map (λ column. column.name) columns
 
 -- the columns of these names, in the order of the table
 abbrev pub columns_named : List (List ℕ) → List ColumnDecl → List ColumnDecl

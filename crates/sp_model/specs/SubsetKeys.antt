@@ -1,12 +1,13 @@
 -- Keys whose conditions only filter.
-use Rattle.std.specs.Prelude.{◌≡◌, ℕ, Bool, true, false, ◌&&◌, List, [], ◌∷◌, filter, Option, if◌then◌else◌, bytes_eq}
-use Rattle.std.specs.List.{list_any, list_all}
+use Rattle.std.specs.Prelude.{◌≡◌, ℕ, Bool, true, false, ◌&&◌, List, [], ◌∷◌, filter, Option, is_some, if◌then◌else◌, bytes_eq}
+use Rattle.std.specs.List.{list_any}
 use Rattle.sp_value.specs.Truth.{truth}
 use Rattle.sp_value.specs.declared.cell.Cell.{Cell}
 use Rattle.sp_model.specs.Book.{Book}
-use Rattle.sp_model.specs.Conditions.{is_canonical}
+use Rattle.sp_model.specs.Calls.{fit_keys, same_presence}
+use Rattle.sp_model.specs.Conditions.{is_scalar}
 use Rattle.sp_model.specs.Fields.{field}
-use Rattle.sp_model.specs.Keys.{is_on, is_sent, put_condition}
+use Rattle.sp_model.specs.Keys.{is_on, put_condition}
 use Rattle.sp_model.specs.Walk.{is_yes}
 use Rattle.sp_model.specs.declared.call.Call.TheVariants as call
 use Rattle.sp_model.specs.declared.call.CallKey.{CallKey}
@@ -39,12 +40,20 @@ abbrev pub list_key : List ℕ → ℕ → List ℕ → Option Cell → ℕ → 
 list_key connection version table parent attempt conditions =
     record { connection = connection; version = version; call = call.List table conditions parent; attempt = attempt }
 
+-- a list call that may be made of a list with these keys: its conditions are canonical, sent and met, and it has a parent exactly where one is declared
+abbrev pub is_list_call : ListDecl → List Condition → Option Cell → Bool
+is_list_call d conditions parent = fit_keys d.keys conditions && same_presence (is_some parent) (is_some d.parent)
+
+-- a further condition on such a key, whose value is a boolean, an integer or a text
+abbrev pub is_further : ListDecl → Condition → Bool
+is_further d further = is_scalar further.value && is_on_subset_key d.keys further
+
 -- the reply to a list call with one condition more on such a key is the reply without it, less the items for which it isn't true, with the same ending
 abbrev pub SubsetKeysOnlyFilter : Book → List ℕ → TableDecl → ListDecl → Type 0
 SubsetKeysOnlyFilter book connection table d =
     (version attempt : ℕ) (parent : Option Cell) (conditions : List Condition) (further : Condition)
-    → (is_canonical conditions && list_all (is_sent d.keys) conditions) ≡ true
-    → is_on_subset_key d.keys further ≡ true
+    → is_list_call d conditions parent ≡ true
+    → is_further d further ≡ true
     → book.reply (list_key connection version table.name parent attempt (put_condition further conditions))
     ≡ record {
       items = filter (holds_of table.columns further) (book.reply (list_key connection version table.name parent attempt conditions)).items;

@@ -172,10 +172,14 @@ walk_value (Full s) = Some (Rows s.rows)
 walk_value (Failed row column cause) = Some (FailedAt row column cause)
 walk_value Waiting = None
 
+-- the walk of a scan by a book at a version; a bad version fails it before its first row
+unfoldable pub walk_at : Book → TableDecl → ScanRequest → version.Version → Walk
+walk_at book table request (Is v) = scan_walk table request (answers_of book request.connection v)
+walk_at book table request (Bad text) = Failed 0 None (BadVersion text)
+
 -- what a scan gives by a book at a version: rows, or its first failure
-abbrev pub scan_value : Book → TableDecl → ScanRequest → version.Version → Option ScanValue
-scan_value book table request (Is v) = walk_value (scan_walk table request (answers_of book request.connection v))
-scan_value book table request (Bad text) = Some (FailedAt 0 None (BadVersion text))
+unfoldable pub scan_value : Book → TableDecl → ScanRequest → version.Version → Option ScanValue
+scan_value book table request version = walk_value (walk_at book table request version)
 
 -- a walk that came to the ending of its calls, and not to its limit
 abbrev pub is_complete : Walk → Bool
@@ -184,7 +188,7 @@ is_complete (Full s) = false
 is_complete (Failed row column cause) = true
 is_complete Waiting = false
 
--- a walk in which no list, get or parents call was asked again
+-- a walk that ended in rows, and in which no list, get or parents call was asked again
 abbrev pub is_steady : Walk → Bool
 is_steady (Going s) = s.steady
 is_steady (Full s) = s.steady

@@ -1,6 +1,7 @@
 ghost use Rattle.std.specs.Prelude.{◌≡◌};
 ghost use Rattle.std.specs.Ordering.{nat_cmp, match_ordering};
-ghost use Rattle.sp_model.specs.Conditions.{is_scalar, scalar_cmp, operator_rank, condition_cmp, is_before, is_canonical};
+ghost use Rattle.sp_value.specs.declared.cell.Cell.TheViews.{out-Cell};
+ghost use Rattle.sp_model.specs.Conditions.{is_scalar, value_rank, scalar_cmp, operator_rank, condition_cmp, is_before, is_canonical};
 
 use crate::call::Condition;
 use sp_value::{Cell, Op};
@@ -66,6 +67,18 @@ pub fn is_scalar(value: &Cell) -> bool
     matches!(value, Cell::Bool(_) | Cell::Int(_) | Cell::Text(_))
 }
 
+fn value_rank(value: &Cell) -> u8
+    ensures { result ≡ value_rank (out-Cell value.now) }
+{
+    match value {
+        Cell::Bool(_) => 0,
+        Cell::Int(_) => 1,
+        Cell::Text(_) => 2,
+        _ => 3,
+    }
+}
+
+/// The order of two values: booleans, then integers, then texts by their bytes, then all others, which it doesn't tell apart.
 fn compare_scalars(left: &Cell, right: &Cell) -> Ordering
     ensures { result ≡ scalar_cmp left.now right.now }
 {
@@ -73,12 +86,6 @@ fn compare_scalars(left: &Cell, right: &Cell) -> Ordering
         (Cell::Bool(a), Cell::Bool(b)) => a.cmp(b),
         (Cell::Int(a), Cell::Int(b)) => a.cmp(b),
         (Cell::Text(a), Cell::Text(b)) => a.as_bytes().cmp(b.as_bytes()),
-        (Cell::Bool(_), Cell::Int(_))
-        | (Cell::Bool(_), Cell::Text(_))
-        | (Cell::Int(_), Cell::Text(_)) => Ordering::Less,
-        (Cell::Int(_), Cell::Bool(_))
-        | (Cell::Text(_), Cell::Bool(_))
-        | (Cell::Text(_), Cell::Int(_)) => Ordering::Greater,
-        _ => Ordering::Equal,
+        _ => value_rank(left).cmp(&value_rank(right)),
     }
 }

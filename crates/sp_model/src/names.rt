@@ -1,6 +1,8 @@
 ghost use Rattle.std.specs.Prelude.{◌≡◌};
 ghost use Rattle.std.specs.List.{list_all};
-ghost use Rattle.sp_model.specs.Names.{is_plain_byte, is_name, is_small_letter, is_word_byte, is_word, is_connection_name};
+ghost use Rattle.sp_model.specs.Names.{is_plain_byte, is_name, is_small_letter, is_word_byte, is_word, is_connection_name, has_name};
+
+use sp_value::Text;
 
 fn is_plain_byte(byte: u8) -> bool
     ensures { result ≡ is_plain_byte byte }
@@ -54,4 +56,11 @@ pub fn is_connection_name(name: &[u8]) -> bool
     ensures { result ≡ is_connection_name name.now }
 {
     name.len() <= 63 && is_word(name)
+}
+
+/// Whether a name is among names.
+pub fn has_name(names: &[Text], name: &Text) -> bool
+    ensures { result ≡ has_name names.now name.now }
+{
+    names.iter().any(|known| *known == *name)
 }

@@ -1,5 +1,5 @@
 -- Names and values, and their pairs.
-use Rattle.std.proofs.Common.{◌≡◌, ◌<◌, ℕ, zero, suc, false, get_or, drop, bytes_eq, List, [], ◌∷◌, length, refl, ap, arith}
+use Rattle.std.proofs.Common.{◌≡◌, ◌<◌, ℕ, zero, suc, false, get_or, drop, bytes_eq, List, [], ◌∷◌, length, refl, sym, ap, ◌∙◌, arith}
 use Rattle.std.specs.List.{zip}
 use Rattle.sp_value.specs.Names.{names_of, values_of, value_under}
 
@@ -17,6 +17,10 @@ values_of_zip (n ∷ ns) (v ∷ vs) e = ap (λ l. v ∷ l) (values_of_zip ns vs 
 pub zip_parts : {X : Type 0} (ms : List (List ℕ × X)) → zip (names_of ms) (values_of ms) ≡ ms
 zip_parts [] = refl
 zip_parts (m ∷ ms) = ap (λ l. m ∷ l) (zip_parts ms)
+
+-- members are the same where their names and their values are
+pub same_parts : {X : Type 0} (a b : List (List ℕ × X)) → names_of a ≡ names_of b → values_of a ≡ values_of b → a ≡ b
+same_parts a b n v = sym (zip_parts a) ∙ ap (λ ns. zip ns (values_of a)) n ∙ ap (λ vs. zip (names_of b) vs) v ∙ zip_parts b
 
 pub length_parts : {X : Type 0} (ms : List (List ℕ × X)) → length (values_of ms) ≡ length (names_of ms)
 length_parts [] = refl

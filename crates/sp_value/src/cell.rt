@@ -48,9 +48,7 @@ pub fn copy_cells(alloc: Global, cells: &[Cell]) -> Result<Items<Cell>, Memory>
 {
     let mut copies = Items::new(alloc);
     for cell in cells {
-        let Ok(()) = copies.push(copy_cell(alloc, cell)?) else {
-            return Err(Memory);
-        };
+        copies.push(copy_cell(alloc, cell)?)?;
     }
     Ok(copies)
 }

@@ -53,9 +53,7 @@ impl TryCopy for Rows {
     fn copy(&self, alloc: Global) -> Result<Rows, Memory> {
         let mut copies = Rows::new(alloc);
         for row in self.as_slice() {
-            let Ok(()) = copies.push(row.copy(alloc)?) else {
-                return Err(Memory);
-            };
+            copies.push(row.copy(alloc)?)?;
         }
         Ok(copies)
     }
@@ -65,9 +63,7 @@ impl<T: TryCopy> TryCopy for Items<T> {
     fn copy(&self, alloc: Global) -> Result<Items<T>, Memory> {
         let mut copies = Items::new(alloc);
         for item in self.as_slice() {
-            let Ok(()) = copies.push(item.copy(alloc)?) else {
-                return Err(Memory);
-            };
+            copies.push(item.copy(alloc)?)?;
         }
         Ok(copies)
     }

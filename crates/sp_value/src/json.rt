@@ -24,6 +24,16 @@ pub enum CellFault {
     Memory,
 }
 
+impl From<Memory> for CellFault {
+    ghost use Rattle.sp_value.specs.declared.json.CellFault.TheVariants as fault;
+
+    ghost from_gives = { λ _ e. e ≡ fault.Memory };
+
+    fn from(_e: Memory) -> CellFault {
+        CellFault::Memory
+    }
+}
+
 /// The value that JSON stands for. It is `Number` exactly where some number is no integer of 64 bits
 /// with a sign, else `TooDeep` exactly where lists and objects nest more than 100 deep.
 #[tactic(auto, using(crate::proofs::JsonLaws::depth_of_cell))]
@@ -40,10 +50,8 @@ pub fn from_json(alloc: Global, value: &Value) -> Result<Cell, CellFault>
     if !nests(value, 100) {
         return Err(CellFault::TooDeep);
     }
-    match convert(alloc, value) {
-        Ok(cell) => Ok(cell),
-        Err(_) => Err(CellFault::Memory),
-    }
+    let cell = convert(alloc, value)?;
+    Ok(cell)
 }
 
 /// Whether some number is no integer of 64 bits with a sign.
@@ -144,9 +152,7 @@ fn convert_items(alloc: Global, items: &Vec<Value>) -> Result<Items<Cell>, Memor
 {
     let mut cells = Items::new(alloc);
     for item in items {
-        let Ok(()) = cells.push(convert(alloc, item)?) else {
-            return Err(Memory);
-        };
+        cells.push(convert(alloc, item)?)?;
     }
     Ok(cells)
 }
@@ -161,12 +167,8 @@ fn convert_members(alloc: Global, members: &Map<String, Value>) -> Result<Member
     for (key, member) in members.iter() {
         let name = Text::from_str(alloc, key.as_str())?;
         let value = convert(alloc, member)?;
-        let Ok(()) = names.push(name) else {
-            return Err(Memory);
-        };
-        let Ok(()) = values.push(value) else {
-            return Err(Memory);
-        };
+        names.push(name)?;
+        values.push(value)?;
     }
     Ok(Members::from_parts(names, values))
 }
@@ -212,10 +214,7 @@ fn written(alloc: Global, cell: &Cell) -> Result<Value, Memory>
         Cell::Null => Ok(Value::Null),
         Cell::Bool(b) => Ok(Value::Bool(*b)),
         Cell::Int(n) => Ok(Value::Number(Number::from(*n))),
-        Cell::Text(text) => match String::from_str(alloc, text.as_str()) {
-            Ok(s) => Ok(Value::String(s)),
-            Err(_) => Err(Memory),
-        },
+        Cell::Text(text) => Ok(Value::String(String::from_str(alloc, text.as_str())?)),
         Cell::List(cells) => Ok(Value::Array(cells_written(alloc, cells.as_slice())?)),
         Cell::Object(members) => Ok(Value::Object(members_written(alloc, members)?)),
     }
@@ -228,9 +227,7 @@ fn cells_written(alloc: Global, cells: &[Cell]) -> Result<Vec<Value>, Memory>
 {
     let mut values = Vec::new(alloc);
     for cell in cells {
-        let Ok(()) = values.push(written(alloc, cell)?) else {
-            return Err(Memory);
-        };
+        values.push(written(alloc, cell)?)?;
     }
     Ok(values)
 }
@@ -245,13 +242,9 @@ fn members_written(alloc: Global, members: &Members) -> Result<Map<String, Value
     let values = members.values();
     for (index, value) in values.iter().enumerate() {
         let json = written(alloc, value)?;
-        let Ok(key) = String::from_str(alloc, names[index].as_str()) else {
-            return Err(Memory);
-        };
-        match map.insert(key, json) {
-            Ok(before) => drop(before),
-            Err(_) => return Err(Memory),
-        }
+        let key = String::from_str(alloc, names[index].as_str())?;
+        let before = map.insert(key, json)?;
+        drop(before);
     }
     Ok(map)
 }

@@ -8,7 +8,9 @@ mod kind;
 mod lists;
 mod members;
 mod pattern;
+mod putting;
 mod rows;
+mod same;
 #[cfg(test)]
 mod tests;
 mod text;
@@ -22,7 +24,8 @@ pub use json::{
 pub use kind::Kind;
 pub use lists::{Cells, Kinds, Texts, copy_texts};
 pub use members::Members;
-pub use pattern::{Pattern, fits_some};
+pub use pattern::{Pattern, fits_some, fits_text};
 pub use rows::Rows;
+pub use same::{same_cell, same_cells, same_members, same_texts};
 pub use text::{Memory, Text};
 pub use truth::{Op, Truth, compare};

@@ -21,9 +21,7 @@ pub fn copy_texts(alloc: Global, texts: &[Text]) -> Result<Texts, Memory>
 {
     let mut copies = Items::new(alloc);
     for text in texts {
-        let Ok(()) = copies.push(Text::from_str(alloc, text.as_str())?) else {
-            return Err(Memory);
-        };
+        copies.push(Text::from_str(alloc, text.as_str())?)?;
     }
     Ok(copies)
 }

@@ -52,6 +52,13 @@ impl TryCopy for Pattern {
     }
 }
 
+/// Whether the whole text fits the pattern that another text spells.
+pub fn fits_text(pattern: &Text, text: &Text) -> bool
+    ensures { result ≡ fits pattern.now text.now }
+{
+    fits_bytes(pattern.as_bytes(), text.as_bytes())
+}
+
 fn fits_bytes(pattern: &[u8], text: &[u8]) -> bool
     ensures { result ≡ fits pattern.now text.now }
 {

@@ -25,9 +25,9 @@ members_written-loop-index-preserved t c =
     let within : i < length ms = omega (arith, c.loop-index-test.true, ap length c.values-values.ensures, length_values ms) in
     let place = at_place ms i name cell within (c.index-names-index.is ∙ ap (λ ns. get_or ns i name) c.names-names.ensures.value) (c.index-values-index.is ∙ ap (λ vs. get_or vs i cell) c.values-values.ensures) in
     let rising : rise (names_of (take i ms ++ (name, cell) ∷ drop (suc i) ms)) ≡ true = ap (λ l. rise (names_of l)) place.0 ∙ ap rise (sym c.names-names.ensures.value) ∙ c.names-names.ensures.rising in
-    let named : string_bytes c.in-Ok.key ≡ name = c.in-Ok.ensures.ok ∙ c.as_str.ensures in
+    let named : string_bytes c.in_ok-key.key ≡ name = c.in_ok-key.ensures.ok ∙ c.as_str.ensures in
     let entries : members_view c.insert.new.self.entries ≡ pairs_data (take i ms ++ (name, cell) ∷ []) =
-    ap members_view c.in-Ok-insert.ensures.entries ∙ members_view-insert_entry l.map.entries c.in-Ok.key c.in_ok-json.json
+    ap members_view c.in_ok-before.ensures.entries ∙ members_view-insert_entry l.map.entries c.in_ok-key.key c.in_ok-json.json
     ∙ rw (named, c.in_ok-json.ensures.value, l.invariant.0) (put_last (take i ms) (name, cell) (drop (suc i) ms) rising) in
     let back : cell_of (data_of cell) ≡ Some cell = ap cell_of (sym c.in_ok-json.ensures.value) ∙ c.in_ok-json.ensures.reads_back in
     let more = pairs_more (take i ms) (name, cell) l.invariant.1 back in
