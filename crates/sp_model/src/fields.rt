@@ -18,12 +18,10 @@ pub fn field<'a>(name: &Text, item: &'a Cell) -> Option<&'a Cell>
 pub fn is_of_kind(kind: Kind, value: &Cell) -> bool
     ensures { result ≡ is_of_kind kind value.now }
 {
-    match (kind, value) {
-        (Kind::Json, _) => true,
-        (_, Cell::Null) => true,
-        (Kind::Bool, Cell::Bool(_)) => true,
-        (Kind::Int, Cell::Int(_)) => true,
-        (Kind::Text, Cell::Text(_)) => true,
-        _ => false,
+    match kind {
+        Kind::Bool => matches!(value, Cell::Null | Cell::Bool(_)),
+        Kind::Int => matches!(value, Cell::Null | Cell::Int(_)),
+        Kind::Text => matches!(value, Cell::Null | Cell::Text(_)),
+        Kind::Json => true,
     }
 }
