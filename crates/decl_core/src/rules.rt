@@ -5,7 +5,7 @@ ghost use Rattle.sp_model.specs.Names.{has_name};
 ghost use Rattle.decl_words.specs.Members.{each, optional, optional_or};
 ghost use Rattle.decl_words.specs.Rules.{own_tags, tag_of, tags_in, tags_of, patterns_of, bounded, number_of, attempts_of, interval_of, cap_of, rule_in, call_rules_in};
 
-use crate::from_json::{FromJson, has_only, has_name, optional, required};
+use crate::from_json::{FromJson, has_name, has_only, optional, required};
 use decl_words::CallRules;
 use serde_json::{Map, Value};
 use sp_model::{Backoff, Pair, Patterns, Retry, Rule};

@@ -4,14 +4,12 @@ use Rattle.std.proofs.Math.Bool.{or-true, or-false}
 use Rattle.std.proofs.lemmas.Bool.{or_parts}
 use Rattle.std.proofs.lemmas.List.Folds.{list_any-append}
 use Rattle.std.proofs.lemmas.Slice.Eq.{bytes_eq-Decides}
-use Rattle.std.specs.List.{list_any}
 use Rattle.sp_model.specs.Names.{has_name, are_distinct}
 use Rattle.decl_words.specs.Refusals.{repeats}
 
 -- one name more at the end
 pub has_name-push : (names : List (List ℕ)) (name q : List ℕ) → has_name (names ++ name ∷ []) q ≡ (has_name names q || bytes_eq q name)
 has_name-push names name q = list_any-append (bytes_eq q) names (name ∷ []) ∙ ap (λ b. has_name names q || b) (or-false (bytes_eq q name))
-
 
 -- where no name repeats one before it, a name of those before isn't among those after
 not-after : (before names : List (List ℕ)) (q : List ℕ) → repeats before names ≡ false → has_name before q ≡ true → has_name names q ≡ false

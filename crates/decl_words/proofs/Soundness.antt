@@ -1,11 +1,8 @@
 -- A declaration without a fault has sound tables.
-use Rattle.std.proofs.Common.{◌≡◌, ℕ, zero, suc, ◌<◌, ◌&&◌, ◌||◌, not, Bool, true, false, cond, List, [], ◌∷◌, map, All, bytes_eq, Option, Some, None, Result, Ok, Err, option_map, inl, inr, if◌then◌else◌, refl, sym, ap, subst, ◌∙◌, arith, true≢false}
-use Rattle.std.specs.List.{list_all, list_any}
+use Rattle.std.proofs.Common.{◌≡◌, ℕ, zero, suc, ◌||◌, not, Bool, true, false, List, [], ◌∷◌, map, All, bytes_eq, Option, Some, None, Result, Ok, Err, option_map, inl, inr, if◌then◌else◌, refl, sym, ap, subst, ◌∙◌, arith}
+use Rattle.std.specs.List.{list_any}
 use Rattle.std.proofs.lemmas.Bool.{or_parts, and_parts}
 use Rattle.std.proofs.lemmas.Slice.Eq.{bytes_eq-Decides}
-use Rattle.serde_json.specs.Data.{Data}
-use Rattle.sp_model.specs.Book.{Book}
-use Rattle.sp_model.specs.declared.declaration.ColumnDecl.{ColumnDecl}
 use Rattle.sp_model.specs.declared.declaration.Declaration.{Declaration}
 use Rattle.sp_model.specs.declared.declaration.FunctionDecl.{FunctionDecl}
 use Rattle.sp_model.specs.declared.declaration.TableDecl.{TableDecl}
@@ -18,8 +15,6 @@ use Rattle.decl_words.specs.Reading.{or_else, limit_of, fault_of, with_plugin_ru
 use Rattle.decl_words.specs.Refusals.{first_table, duplicate_table, first_cycle, cycle_in, repeats, list_repeats, get_repeats, has_repeat, has_unknown, column_is_unknown, depends_on_unknown, has_subset_key, has_no_access}
 use Rattle.decl_words.specs.Sound.{IsSound, BookTablesAreSound}
 use Rattle.decl_words.specs.Tables.{draft_of}
-use Rattle.sp_model.specs.Names.{are_distinct}
-use Rattle.sp_model.specs.Rests.{column_rests}
 use Rattle.decl_words.specs.declared.cycles.TableCycle.{TableCycle}
 use Rattle.decl_words.specs.declared.fault.DeclFault.{DeclFault}
 use Rattle.decl_words.specs.declared.fault.DeclFault.TheVariants.{DuplicateName, UnknownFunction, Cycle, SubsetKeyIsHydrated, NoAccess, Limit}
@@ -27,7 +22,7 @@ use Rattle.decl_words.proofs.Lists.{In, not-false-is}
 use Rattle.decl_words.proofs.Names.{distinct}
 use Rattle.decl_words.proofs.Orders.{can_run}
 use Rattle.decl_words.proofs.Resting.{columns_rest}
-use Rattle.decl_words.proofs.TablesPass.{none-refused, none-repeats, dependencies-declared}
+use Rattle.decl_words.proofs.TablesPass.{none-refused, none-repeats}
 
 -- neither of two faults
 neither : {X : Type 0} (f : X → DeclFault) (o : Option X) (more : Option DeclFault) → or_else (option_map f o) more ≡ None → (o ≡ None) × (more ≡ None)

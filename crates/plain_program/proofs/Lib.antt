@@ -1,5 +1,5 @@
 pub mod Cells
 pub mod Hydrating
-pub mod Putting
 pub mod Settles
+pub mod Versions
 pub mod Walks

@@ -1,4 +1,3 @@
 pub mod Known
 pub mod Script
 pub mod Sources
-pub mod Worked

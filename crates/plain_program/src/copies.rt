@@ -14,9 +14,7 @@ pub(crate) fn push_copies<T: TryCopy>(
     ensures { OnOk result (into.new ≡ into.old ++ things.now) }
 {
     for thing in things {
-        let Ok(()) = into.push(thing.copy(alloc)?) else {
-            return Err(Memory);
-        };
+        into.push(thing.copy(alloc)?)?;
     }
     Ok(())
 }

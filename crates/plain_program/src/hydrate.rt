@@ -1,17 +1,12 @@
-ghost use Rattle.std.specs.Prelude.{◌≡◌, ◌++◌, ◌∷◌, [], Some, length, true, OnOk, IfOk};
+ghost use Rattle.std.specs.Prelude.{◌≡◌, Some, IfOk};
 ghost use Rattle.std.specs.Option.{option_copied};
-ghost use Rattle.std.specs.List.{zip};
-ghost use Rattle.sp_value.specs.Names.{rise, names_of, values_of};
-ghost use Rattle.sp_model.specs.Hydration.{put_under, with_result, with_results, find_function, outcome_of, hydrate_call, hydrated_in, hydrated};
+ghost use Rattle.sp_model.specs.Hydration.{with_result, with_results, find_function, outcome_of, hydrate_call, hydrated_in, hydrated};
 
-use crate::copies::push_copies;
 use crate::replies::Replies;
 use crate::settle::{rule_of, settled};
 use sp_model::{Call, Cause, FunctionDecl, Outcome, Results, Settled, TableDecl};
-use sp_value::{Cell, Cells, Members, Memory, Text, Texts, TryCopy};
-use sqlite_items::Items;
+use sp_value::{Cell, Members, Memory, Text, TryCopy};
 use std::alloc::Global;
-use std::cmp::Ordering;
 
 /// What a function gives for an item, its dependencies first. `None` where an answer is missing.
 pub fn hydrated<R: Replies>(
@@ -78,113 +73,12 @@ fn with_result(
         None => Ok(Results::Pending),
         Some(Outcome::Fails(cause)) => Ok(Results::Missed(cause)),
         Some(Outcome::Gave(value)) => match rest {
-            Results::Given(members) => Ok(Results::Given(put_under(
-                alloc, name, &value, &members,
-            )?)),
+            Results::Given(members) => {
+                Ok(Results::Given(members.put_under(alloc, name, &value)?))
+            }
             other => Ok(other),
         },
     }
-}
-
-#[tactic(auto, using(crate::proofs::Putting::rise_put))]
-fn put_under(alloc: Global, name: &Text, value: &Cell, members: &Members) -> Result<Members, Memory>
-    ensures { IfOk result (λ ms. ms ≡ put_under name.now value.now members.now) }
-{
-    let mut names = Items::new(alloc);
-    let mut values = Items::new(alloc);
-    put_parts(
-        alloc,
-        name,
-        value,
-        members.names(),
-        members.values(),
-        &mut names,
-        &mut values,
-    )?;
-    Ok(Members::from_parts(names, values))
-}
-
-fn put_parts(
-    alloc: Global,
-    name: &Text,
-    value: &Cell,
-    names: &[Text],
-    values: &[Cell],
-    into_names: &mut Texts,
-    into_values: &mut Cells,
-) -> Result<(), Memory>
-    requires { length names.now ≡ length values.now }
-    ensures names { OnOk result (into_names.new ≡ into_names.old ++ names_of (put_under name.now value.now (zip names.now values.now))) }
-    ensures values { OnOk result (into_values.new ≡ into_values.old ++ values_of (put_under name.now value.now (zip names.now values.now))) }
-{
-    for (index, first) in names.iter().enumerate() {
-        match name.cmp(first) {
-            Ordering::Less => {
-                push_rest(
-                    alloc,
-                    name,
-                    value,
-                    &names[index..],
-                    &values[index..],
-                    into_names,
-                    into_values,
-                )?;
-                return Ok(());
-            }
-            Ordering::Equal => {
-                push_rest(
-                    alloc,
-                    name,
-                    value,
-                    &names[index + 1..],
-                    &values[index + 1..],
-                    into_names,
-                    into_values,
-                )?;
-                return Ok(());
-            }
-            Ordering::Greater => push_both(alloc, first, &values[index], into_names, into_values)?,
-        }
-    }
-    push_both(alloc, name, value, into_names, into_values)?;
-    Ok(())
-}
-
-fn push_rest(
-    alloc: Global,
-    name: &Text,
-    value: &Cell,
-    names: &[Text],
-    values: &[Cell],
-    into_names: &mut Texts,
-    into_values: &mut Cells,
-) -> Result<(), Memory>
-    ensures names { OnOk result (into_names.new ≡ into_names.old ++ name.now ∷ names.now) }
-    ensures values { OnOk result (into_values.new ≡ into_values.old ++ value.now ∷ values.now) }
-{
-    push_both(alloc, name, value, into_names, into_values)?;
-    push_copies(alloc, into_names, names)?;
-    push_copies(alloc, into_values, values)?;
-    Ok(())
-}
-
-fn push_both(
-    alloc: Global,
-    name: &Text,
-    value: &Cell,
-    names: &mut Texts,
-    values: &mut Cells,
-) -> Result<(), Memory>
-    ensures names { OnOk result (names.new ≡ names.old ++ name.now ∷ []) }
-    ensures values { OnOk result (values.new ≡ values.old ++ value.now ∷ []) }
-{
-    let Ok(()) = names.push(name.copy(alloc)?) else {
-        return Err(Memory);
-    };
-    let Ok(()) = values.push(value.copy(alloc)?) else {
-        return Err(Memory);
-    };
-    Ok(())
 }
 
 fn with_results<R: Replies>(

@@ -1,39 +1,21 @@
 ghost use Rattle.std.specs.Prelude.{◌≡◌, IfOk, Some};
-ghost use Rattle.sp_model.specs.Fields.{field, is_of_kind};
+ghost use Rattle.sp_model.specs.Fields.{field};
 ghost use Rattle.sp_model.specs.Hydration.{hydrated};
 ghost use Rattle.sp_model.specs.RowOf.{checked, column_of, source_of, column_value, row_of};
 
 use crate::hydrate::hydrated;
 use crate::replies::Replies;
-use sp_model::{Cause, ColumnDecl, Outcome, Row, TableDecl};
+use sp_model::{Cause, ColumnDecl, Outcome, Row, TableDecl, field, is_of_kind};
 use sp_value::{Cell, Kind, Memory, Text, TryCopy};
 use sqlite_items::Items;
 use std::alloc::Global;
 
-/// The value under a name in an object, null where there is none.
-pub fn field(alloc: Global, name: &Text, item: &Cell) -> Result<Cell, Memory>
+fn field_copy(alloc: Global, name: &Text, item: &Cell) -> Result<Cell, Memory>
     ensures { IfOk result (λ c. c ≡ field name.now item.now) }
 {
-    let Cell::Object(members) = item else {
-        return Ok(Cell::Null);
-    };
-    match members.get(name.as_str()) {
+    match field(name, item) {
         Some(value) => value.copy(alloc),
         None => Ok(Cell::Null),
-    }
-}
-
-/// Whether a value is of a kind, as null is of every kind and every value of the kind json.
-pub fn is_of_kind(kind: Kind, value: &Cell) -> bool
-    ensures { result ≡ is_of_kind kind value.now }
-{
-    match (kind, value) {
-        (Kind::Json, _) => true,
-        (_, Cell::Null) => true,
-        (Kind::Bool, Cell::Bool(_)) => true,
-        (Kind::Int, Cell::Int(_)) => true,
-        (Kind::Text, Cell::Text(_)) => true,
-        _ => false,
     }
 }
 
@@ -58,7 +40,7 @@ fn column_of(
         None => Ok(None),
         Some(Outcome::Fails(cause)) => Ok(Some(Outcome::Fails(cause))),
         Some(Outcome::Gave(value)) => {
-            let value = field(alloc, &column.field, &value)?;
+            let value = field_copy(alloc, &column.field, &value)?;
             Ok(Some(checked(column.kind, value)))
         }
     }
@@ -100,11 +82,7 @@ pub fn row_of<R: Replies>(
                     cause,
                 }));
             }
-            Some(Outcome::Gave(value)) => {
-                let Ok(()) = cells.push(value) else {
-                    return Err(Memory);
-                };
-            }
+            Some(Outcome::Gave(value)) => cells.push(value)?,
         }
     }
     Ok(Some(Row::Whole(cells)))

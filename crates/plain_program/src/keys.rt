@@ -80,9 +80,7 @@ fn put_condition(
 fn push_one<T: TryCopy>(alloc: Global, into: &mut Items<T>, thing: &T) -> Result<(), Memory>
     ensures { OnOk result (into.new ≡ into.old ++ thing.now ∷ []) }
 {
-    let Ok(()) = into.push(thing.copy(alloc)?) else {
-        return Err(Memory);
-    };
+    into.push(thing.copy(alloc)?)?;
     Ok(())
 }
 
@@ -185,9 +183,7 @@ fn with_fan(
     for column in lists {
         let condition = equals(alloc, column)?;
         if is_sent(keys, &condition) {
-            let Ok(()) = all.push(condition) else {
-                return Err(Memory);
-            };
+            all.push(condition)?;
             push_copies(alloc, &mut all, conditions)?;
             return Ok(all);
         }

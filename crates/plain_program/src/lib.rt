@@ -1,4 +1,5 @@
-//! Slow and obvious functions whose contracts are the definitions. Tests use them, and no program ships them.
+//! Slow and obvious functions whose contracts are the definitions of `sp_model`: so they can be computed. No program ships them.
+//! `scan_walk` and `scan_value` are the scan; `Script` has replies that are written down.
 #![tactic(auto)]
 
 mod copies;
@@ -10,17 +11,12 @@ mod scan;
 mod script;
 mod settle;
 mod walking;
-mod worked;
 
 pub use hydrate::hydrated;
-pub use item::{field, is_of_kind, row_of};
+pub use item::row_of;
 pub use keys::{choose, is_met, missing_keys, sent};
-pub use replies::{InWorld, Replies};
-pub use scan::{OfItem, OfParent, columns_named, scan_value, scan_walk};
+pub use replies::Replies;
+pub use scan::{OfItem, OfParent, scan_value, scan_walk};
 pub use script::{Script, Written};
 pub use settle::{rule_of, settled};
 pub use walking::{Source, Visit, walk};
-pub use worked::worked_values;
-
-#[cfg(test)]
-mod tests;

@@ -1,46 +1,20 @@
-ghost use Rattle.std.specs.Prelude.{◌≡◌, ◌++◌, ◌∷◌, [], suc, IfOk, IsTrue};
+ghost use Rattle.std.specs.Prelude.{◌≡◌, ◌++◌, ◌∷◌, [], suc, IfOk};
+ghost use Rattle.sp_model.specs.Book.{Book};
 ghost use Rattle.sp_model.specs.declared.outcome.Walk.TheVariants.{Going};
-ghost use Rattle.sp_model.specs.RowOf.{has_name, columns_named};
 ghost use Rattle.sp_model.specs.Walk.{cell_of, meets, is_reached, with_row_kept, with_row, walk_items, walk_by, scan_walk, walk_value, scan_value, start, no_source, list_source, get_source, parent_source, parent_of};
+ghost use Rattle.plain_program.specs.Known.{AreAnswersAt};
 ghost use Rattle.plain_program.specs.Sources.{source_of};
 
 use crate::item::row_of;
-use crate::replies::{InWorld, Replies};
+use crate::replies::Replies;
 use crate::settle::rule_of;
 use crate::walking::{Source, Visit, next_row, walk};
 use sp_model::{
     Access, AccessDecl, Call, Cause, ColumnDecl, Condition, GetDecl, ListDecl, Row, Rule,
-    ScanRequest, ScanValue, TableDecl, Version, Walk, WalkState,
+    ScanRequest, ScanValue, TableDecl, Version, Walk, WalkState, columns_named,
 };
 use sp_value::{Cell, Cells, Memory, Rows, Text, Truth, TryCopy, compare};
-use sp_world::World;
-use sqlite_items::Items;
 use std::alloc::Global;
-
-fn has_name(names: &[Text], name: &Text) -> bool
-    ensures { result ≡ has_name names.now name.now }
-{
-    names.iter().any(|known| name == known)
-}
-
-/// The columns of these names, in the order of the table.
-pub fn columns_named(
-    alloc: Global,
-    names: &[Text],
-    columns: &[ColumnDecl],
-) -> Result<Items<ColumnDecl>, Memory>
-    ensures { IfOk result (λ cs. cs ≡ columns_named names.now columns.now) }
-{
-    let mut named = Items::new(alloc);
-    for column in columns {
-        if has_name(names, &column.name) {
-            let Ok(()) = named.push(column.copy(alloc)?) else {
-                return Err(Memory);
-            };
-        }
-    }
-    Ok(named)
-}
 
 fn cell_of(
     alloc: Global,
@@ -96,9 +70,7 @@ fn with_row_kept(limit: Option<u64>, cells: Cells, state: WalkState) -> Result<W
         items: _,
         steady,
     } = state;
-    let Ok(()) = rows.push(cells) else {
-        return Err(Memory);
-    };
+    rows.push(cells)?;
     let full = is_reached(limit, rows.len());
     let state = WalkState {
         rows,
@@ -389,20 +361,19 @@ fn walk_value(walk: Walk) -> Option<ScanValue>
     }
 }
 
-/// What a scan gives in a world that tells, at a version: rows, or its first failure.
-pub fn scan_value<W: World>(
+/// What a scan gives at a version of its connection: rows, or its first failure. `replies` are those of that connection and version.
+pub fn scan_value<R: Replies>(
     alloc: Global,
+    replies: &R,
     table: &TableDecl,
     request: &ScanRequest,
     version: &Version,
 ) -> Result<Option<ScanValue>, Memory>
-    requires { IsTrue W.tells }
-    ensures { IfOk result (λ v. v ≡ scan_value W.book table.now request.now version.now) }
+    ensures { IfOk result (λ v. (book : Book) → AreAnswersAt book request.now.connection version.now (R.answers replies.now) → v ≡ scan_value book table.now request.now version.now) }
 {
     match version {
-        Version::Is(number) => {
-            let replies: InWorld<W> = InWorld::new(request.connection.copy(alloc)?, *number);
-            let walk = scan_walk(alloc, &replies, table, request)?;
+        Version::Is(_) => {
+            let walk = scan_walk(alloc, replies, table, request)?;
             Ok(walk_value(walk))
         }
         Version::Bad(text) => Ok(Some(ScanValue::Failed {

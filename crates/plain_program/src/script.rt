@@ -1,9 +1,8 @@
 ghost use Rattle.std.specs.Prelude.{◌≡◌, ◌&&◌, ◌==◌, IfOk, bytes_eq};
 ghost use Rattle.plain_program.specs.Script.{name_in, name_in_some, function_of, subject_of, find_reply};
 
-use crate::item::field;
 use crate::replies::Replies;
-use sp_model::{Call, Reply};
+use sp_model::{Call, Reply, field};
 use sp_value::{Cell, Memory, Text, TryCopy};
 use sqlite_items::Items;
 use std::alloc::Global;
@@ -28,8 +27,8 @@ fn name_in(alloc: Global, item: &Cell) -> Result<Text, Memory>
     ensures { IfOk result (λ t. t ≡ name_in item.now) }
 {
     let name = Text::from_str(alloc, "name")?;
-    match field(alloc, &name, item)? {
-        Cell::Text(text) => Ok(text),
+    match field(&name, item) {
+        Some(Cell::Text(text)) => text.copy(alloc),
         _ => Text::from_str(alloc, ""),
     }
 }

@@ -5,7 +5,7 @@ ghost use Rattle.sp_model.specs.Settling.{rule_of, is_ignored, is_retried, settl
 use crate::copies::or_else;
 use crate::replies::Replies;
 use sp_model::{Call, Ending, Patterns, Reply, Retry, Rule, Settled, TableDecl};
-use sp_value::{Memory, Pattern, Text};
+use sp_value::{Memory, Text, fits_text};
 use std::alloc::Global;
 
 /// The rules of a call with rules of its own: each rule is the call's, else the table's, else the plugin's.
@@ -25,45 +25,34 @@ pub fn rule_of(
     })
 }
 
-fn fits_some(alloc: Global, patterns: &[Text], text: &Text) -> Result<bool, Memory>
-    ensures { IfOk result (λ b. b ≡ fits_some patterns.now text.now) }
+fn fits_some(patterns: &[Text], text: &Text) -> bool
+    ensures { result ≡ fits_some patterns.now text.now }
 {
     for pattern in patterns {
-        let pattern = Pattern::read(alloc, pattern.as_str())?;
-        if pattern.fits(text) {
-            return Ok(true);
+        if fits_text(pattern, text) {
+            return true;
         }
     }
-    Ok(false)
+    false
 }
 
-pub(crate) fn is_ignored(
-    alloc: Global,
-    ignore: &Option<Patterns>,
-    text: &Text,
-) -> Result<bool, Memory>
-    ensures { IfOk result (λ b. b ≡ is_ignored ignore.now text.now) }
+pub(crate) fn is_ignored(ignore: &Option<Patterns>, text: &Text) -> bool
+    ensures { result ≡ is_ignored ignore.now text.now }
 {
     match ignore {
-        Some(patterns) => fits_some(alloc, patterns.as_slice(), text),
-        None => Ok(false),
+        Some(patterns) => fits_some(patterns.as_slice(), text),
+        None => false,
     }
 }
 
-pub(crate) fn is_retried(
-    alloc: Global,
-    retry: &Option<Retry>,
-    attempt: u32,
-    text: &Text,
-) -> Result<bool, Memory>
-    ensures value { IfOk result (λ b. b ≡ is_retried retry.now attempt text.now) }
-    ensures below { IfOk result (λ b. b ≡ true → attempt + 1 < 2 ^ 32) }
+pub(crate) fn is_retried(retry: &Option<Retry>, attempt: u32, text: &Text) -> bool
+    ensures value { result ≡ is_retried retry.now attempt text.now }
+    ensures below { result ≡ true → attempt + 1 < 2 ^ 32 }
 {
-    let Some(rule) = retry else {
-        return Ok(false);
-    };
-    let fits = fits_some(alloc, rule.patterns.as_slice(), text)?;
-    Ok(fits && attempt < rule.attempts)
+    match retry {
+        Some(rule) => fits_some(rule.patterns.as_slice(), text) && attempt < rule.attempts,
+        None => false,
+    }
 }
 
 /// What a call comes to, asked again by its rule. `None` where an answer is missing.
@@ -96,10 +85,10 @@ fn settled_from<R: Replies>(
     let Ending::Error(text) = ending else {
         return Ok(Some(Settled::Items(items)));
     };
-    if is_ignored(alloc, &rule.ignore, &text)? {
+    if is_ignored(&rule.ignore, &text) {
         return Ok(Some(Settled::Items(items)));
     }
-    if is_retried(alloc, &rule.retry, attempt, &text)? {
+    if is_retried(&rule.retry, attempt, &text) {
         let later = settled_from(alloc, replies, rule, call, attempt + 1)?;
         return Ok(later);
     }

@@ -122,10 +122,10 @@ fn end(
     let Ending::Error(text) = ending else {
         return Ok(Next::Done(accepted(alloc, source, count, state)?));
     };
-    if is_ignored(alloc, &source.rule.ignore, &text)? {
+    if is_ignored(&source.rule.ignore, &text) {
         return Ok(Next::Done(accepted(alloc, source, count, state)?));
     }
-    if is_retried(alloc, &source.rule.retry, attempt, &text)? {
+    if is_retried(&source.rule.retry, attempt, &text) {
         return Ok(Next::Again);
     }
     Ok(Next::Done(refused(alloc, source, attempt, text, &state)?))

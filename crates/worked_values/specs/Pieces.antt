@@ -1,24 +1,19 @@
--- Worked values of the definitions.
-use Rattle.std.specs.Prelude.{◌≡◌, ℕ, pos, nat_lt, true, false, List, [], ◌∷◌, codes, Option, Some, None, if◌then◌else◌, bytes_eq}
+-- One call with its attempts and delays, one function with those that it needs, and one row.
+use Rattle.std.specs.Prelude.{◌≡◌, ℕ, nat_lt, true, false, List, [], ◌∷◌, codes, Option, Some, None, if◌then◌else◌, bytes_eq}
 use Rattle.sp_value.specs.declared.cell.Cell.{Cell}
 use Rattle.sp_value.specs.declared.cell.Cell as c
 use Rattle.sp_value.specs.declared.kind.Kind.TheVariants as kind
-use Rattle.sp_value.specs.declared.truth.Op.TheVariants as op
+use Rattle.sp_model.specs.Delays.{delay_by}
 use Rattle.sp_model.specs.Hydration.{hydrated_by}
-use Rattle.sp_model.specs.Keys.{is_met, missing_keys, sent}
+use Rattle.sp_model.specs.Rests.{rests, column_rests}
 use Rattle.sp_model.specs.RowOf.{row_of}
-use Rattle.sp_model.specs.Settling.{Seen, settled}
-use Rattle.sp_model.specs.Units.{distinct_values, still_missing}
+use Rattle.sp_model.specs.Settling.{Seen, rule_of, settled}
 use Rattle.sp_model.specs.Walk.{Source, walk, start}
-use Rattle.sp_model.specs.declared.call.Condition.{Condition}
 use Rattle.sp_model.specs.declared.call.Ending.TheVariants.{End, Error}
-use Rattle.sp_model.specs.declared.declaration.Backoff.TheVariants.{Constant}
-use Rattle.sp_model.specs.declared.declaration.ColumnDecl.{ColumnDecl}
+use Rattle.sp_model.specs.declared.declaration.Backoff.{Backoff}
+use Rattle.sp_model.specs.declared.declaration.Backoff.TheVariants.{Constant, Fibonacci, Exponential}
 use Rattle.sp_model.specs.declared.declaration.FunctionDecl.{FunctionDecl}
-use Rattle.sp_model.specs.declared.declaration.KeyDecl.{KeyDecl}
-use Rattle.sp_model.specs.declared.declaration.Matching.TheVariants.{Exact}
-use Rattle.sp_model.specs.declared.declaration.Need.{Need}
-use Rattle.sp_model.specs.declared.declaration.Need.TheVariants.{Required, AnyOf}
+use Rattle.sp_model.specs.declared.declaration.Retry.{Retry}
 use Rattle.sp_model.specs.declared.declaration.Rule.{Rule}
 use Rattle.sp_model.specs.declared.outcome.Outcome.{Outcome}
 use Rattle.sp_model.specs.declared.outcome.Outcome.TheVariants.{Gave, Fails}
@@ -29,16 +24,16 @@ use Rattle.sp_model.specs.declared.outcome.Walk.TheVariants.{Going, Failed}
 use Rattle.sp_model.specs.declared.outcome.WalkState.{WalkState}
 use Rattle.sp_model.specs.declared.scan.Cause.TheVariants.{BadValue}
 use Rattle.sp_model.specs.declared.scan.Cause.TheVariants as cause
+use Rattle.worked_values.specs.Samples.{number, three_times, column, function_of, functions, bucket}
+
+-- ---- a call
 
 -- NotFound is ignored, and Throttled is asked again, three times in all
 abbrev pub rule : Rule
-rule = record {
-  ignore = Some (codes "NotFound*" ∷ []);
-  retry = Some (record { patterns = codes "Throttled*" ∷ []; attempts = 3; backoff = Constant; interval = 10; cap = 1000000000 });
-}
+rule = record { ignore = Some (codes "NotFound*" ∷ []); retry = three_times }
 
 abbrev pub one : Cell
-one = c.Int (pos 1)
+one = number 1
 
 abbrev pub ends_with : List ℕ → Seen
 ends_with text = record { items = one ∷ []; ending = Some (Error text) }
@@ -59,11 +54,27 @@ FourthIsTooLate = settled rule (throttled_below 4) ≡ Some (Refused 3 (codes "T
 abbrev pub WithoutEndingItWaits : Type 0
 WithoutEndingItWaits = settled rule (λ attempt. record { items = one ∷ []; ending = None }) ≡ None
 
-abbrev pub function_of : List ℕ → List (List ℕ) → FunctionDecl
-function_of name depends = record { name = name; depends = depends; tags = []; ignore = None; retry = None }
+-- each rule by itself: an empty one of the call hides that of its table, and one that it doesn't have comes from there
+abbrev pub OwnRuleCounts : Type 0
+OwnRuleCounts =
+    (rule_of (record bucket { ignore = Some (codes "a" ∷ []); retry = three_times }) (Some []) None ≡ record { ignore = Some []; retry = three_times })
+    × (rule_of (record bucket { plugin = rule }) None None ≡ rule)
 
-abbrev pub functions : List FunctionDecl
-functions = function_of (codes "getAcl") [] ∷ function_of (codes "getPolicy") (codes "getAcl" ∷ []) ∷ []
+-- ---- delays
+
+abbrev pub by : Backoff → ℕ → Option Retry
+by backoff cap = Some (record { patterns = []; attempts = 20; backoff = backoff; interval = 10; cap = cap })
+
+abbrev pub DelaysGrow : Type 0
+DelaysGrow =
+    ((delay_by (by Constant 1000) 1 ≡ 10) × (delay_by (by Constant 1000) 5 ≡ 10))
+    × (((delay_by (by Fibonacci 1000) 1 ≡ 10) × ((delay_by (by Fibonacci 1000) 2 ≡ 10) × (delay_by (by Fibonacci 1000) 6 ≡ 80)))
+    × ((delay_by (by Exponential 1000) 1 ≡ 10) × ((delay_by (by Exponential 1000) 2 ≡ 20) × (delay_by (by Exponential 1000) 5 ≡ 160))))
+
+abbrev pub DelayIsAtMostTheCap : Type 0
+DelayIsAtMostTheCap = (delay_by (by Exponential 100) 5 ≡ 100) × (delay_by None 1 ≡ 0)
+
+-- ---- a function
 
 abbrev pub denied : Outcome
 denied = Fails (cause.Error (codes "getAcl") 1 (codes "Denied"))
@@ -82,17 +93,28 @@ PolicyNeedsAcl = hydrated_by functions counting (codes "getPolicy") ≡ Some (Ga
 abbrev pub PolicyFailsAsAcl : Type 0
 PolicyFailsAsAcl = hydrated_by functions refusing (codes "getPolicy") ≡ Some denied
 
-abbrev pub item : Cell
-item = c.Object ((codes "id", one) ∷ [])
+-- a and b need one another
+abbrev pub in_a_circle : List FunctionDecl
+in_a_circle = function_of (codes "a") (codes "b" ∷ []) None ∷ function_of (codes "b") (codes "a" ∷ []) None ∷ []
 
-abbrev pub column_of : List ℕ → ColumnDecl
-column_of name = record { name = name; kind = kind.Text; function = None; field = name }
+abbrev pub FunctionsInACircleNeverEnd : Type 0
+FunctionsInACircleNeverEnd =
+    ((rests functions (codes "getPolicy") ≡ true) × (rests functions (codes "getOwner") ≡ false))
+    × ((rests in_a_circle (codes "a") ≡ false)
+    × ((column_rests in_a_circle (column (codes "x") kind.Text None) ≡ true) × (column_rests in_a_circle (column (codes "x") kind.Text (Some (codes "a"))) ≡ false)))
+
+-- ---- a row
+
+abbrev pub with_id : Cell
+with_id = c.Object ((codes "id", one) ∷ [])
 
 abbrev pub MissingFieldIsNull : Type 0
-MissingFieldIsNull = row_of (λ f. None) (column_of (codes "name") ∷ []) item ≡ Some (Whole (c.Null ∷ []))
+MissingFieldIsNull = row_of (λ f. None) (column (codes "name") kind.Text None ∷ []) with_id ≡ Some (Whole (c.Null ∷ []))
 
 abbrev pub OtherKindIsBad : Type 0
-OtherKindIsBad = row_of (λ f. None) (column_of (codes "name") ∷ column_of (codes "id") ∷ []) item ≡ Some (Broken (codes "id") (BadValue one))
+OtherKindIsBad = row_of (λ f. None) (column (codes "name") kind.Text None ∷ column (codes "id") kind.Text None ∷ []) with_id ≡ Some (Broken (codes "id") (BadValue one))
+
+-- ---- a walk
 
 -- a visit that keeps each item as a row of its own
 abbrev pub keep_each : Cell → WalkState → Walk
@@ -106,27 +128,3 @@ FailedAttemptIsDropped = walk keep_each source (throttled_below 2) start ≡ Goi
 
 abbrev pub GetGivesOne : Type 0
 GetGivesOne = walk keep_each (record source { single = true }) (throttled_below 0) start ≡ Failed 1 None (cause.TooMany (codes "list") 2)
-
-abbrev pub key_of : List ℕ → Need → KeyDecl
-key_of name need = record { column = name; operators = op.Eq ∷ []; need = need; matching = Exact }
-
-abbrev pub event_keys : List KeyDecl
-event_keys = key_of (codes "region") AnyOf ∷ key_of (codes "zone") AnyOf ∷ []
-
-abbrev pub zone_is_one : Condition
-zone_is_one = record { column = codes "zone"; operator = op.Eq; value = one }
-
-abbrev pub EventNeedsRegionOrZone : Type 0
-EventNeedsRegionOrZone = (missing_keys event_keys [] ≡ codes "region" ∷ codes "zone" ∷ []) × (is_met event_keys (zone_is_one ∷ []) ≡ true)
-
-abbrev pub TagNeedsBucket : Type 0
-TagNeedsBucket = missing_keys (key_of (codes "bucket") Required ∷ []) (zone_is_one ∷ []) ≡ codes "bucket" ∷ []
-
-abbrev pub OnlyKeysAreSent : Type 0
-OnlyKeysAreSent = sent event_keys ((record zone_is_one { operator = op.Lt }) ∷ zone_is_one ∷ (record zone_is_one { column = codes "body" }) ∷ []) ≡ zone_is_one ∷ []
-
-abbrev pub FanHasEachValueOnce : Type 0
-FanHasEachValueOnce = distinct_values [] (one ∷ one ∷ c.Null ∷ c.Int (pos 2) ∷ []) ≡ one ∷ c.Int (pos 2) ∷ []
-
-abbrev pub NothingIsMissing : Type 0
-NothingIsMissing = still_missing 40 40 ≡ None

@@ -1,6 +1,0 @@
-use Rattle.std.proofs.Common.{◌≡◌, ◌++◌, drop}
-use Rattle.sp_model.specs.RowOf.{columns_named}
-use Rattle.plain_program.proofs.scan.columns_named.Given as goal
-
-abbrev pub invariant-loop-column : goal.invariant-loop-column
-invariant-loop-column l = l.named ++ columns_named l.names (drop l.column-index l.columns) ≡ columns_named l.names l.columns

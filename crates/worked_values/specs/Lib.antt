@@ -1,0 +1,9 @@
+pub mod Samples
+pub mod Pieces
+pub mod Buckets
+pub mod Objects
+pub mod Keyed
+pub mod Serving
+pub mod Lawful
+pub mod Notes
+pub mod Filtering
