@@ -1,4 +1,6 @@
 //! Laws of the definitions that say how several of them fit together, each named by the contract of a function that does nothing.
+//!
+//! What a law says stands in `specs/`, in the words of `sp_model`. Nothing here runs.
 #![tactic(auto)]
 
 ghost use Rattle.model_laws.specs.Covered.{CoveredScanGivesTheRows};
