@@ -88,20 +88,24 @@ accepted w =
 abbrev pub judged : Written → Result Settings SettingsFault
 judged w = unless NotYet (not_yet w) (accepted w)
 
-abbrev pub checked : Result Written SettingsFault → Result Settings SettingsFault
-checked (Err fault) = Err fault
-checked (Ok w) = judged w
+abbrev pub checked : (Written → Result Settings SettingsFault) → Result Written SettingsFault → Result Settings SettingsFault
+checked judge (Err fault) = Err fault
+checked judge (Ok w) = judge w
 
 -- the TOML document that bytes are, if they are text and TOML
 abbrev pub document_of : List ℕ → Option Data
 document_of bytes = if is_utf8 bytes then option_map table (parse_document bytes) else None
 
-abbrev pub read : Option Data → Result Settings SettingsFault
-read None = Err Toml
-read (Some d) = checked (written_of d)
+abbrev pub read : (Written → Result Settings SettingsFault) → Option Data → Result Settings SettingsFault
+read judge None = Err Toml
+read judge (Some d) = checked judge (written_of d)
 
 abbrev pub read_settings : List ℕ → Result Settings SettingsFault
-read_settings bytes = read (document_of bytes)
+read_settings bytes = read judged (document_of bytes)
+
+-- the same without the refusal "not yet"
+abbrev pub read_all_settings : List ℕ → Result Settings SettingsFault
+read_all_settings bytes = read accepted (document_of bytes)
 
 -- for private clauses: the fault of bytes that are no document, or want of memory
 abbrev pub IsDocumentFault : SettingsFault → List ℕ → Type 0

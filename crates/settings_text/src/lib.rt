@@ -16,4 +16,4 @@ mod refusals;
 mod written;
 
 pub use fault::{Entry, SettingsFault};
-pub use reading::read_settings;
+pub use reading::{read_all_settings, read_settings};

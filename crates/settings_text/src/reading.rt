@@ -1,7 +1,7 @@
 ghost use Rattle.std.specs.Prelude.{◌≡◌, Some, None, MatchResult, IfOk};
 ghost use Rattle.toml.specs.View.{view};
 ghost use Rattle.settings_text.specs.Faults.{IsUnlessMemory};
-ghost use Rattle.settings_text.specs.Reading.{are_many, connections_within, within_limits, accepted, judged, document_of, read_settings, IsDocumentFault};
+ghost use Rattle.settings_text.specs.Reading.{are_many, connections_within, within_limits, accepted, judged, document_of, read_settings, read_all_settings, IsDocumentFault};
 
 use crate::aggregators::with_members;
 use crate::entries::written_of;
@@ -27,6 +27,17 @@ pub fn read_settings(alloc: Global, bytes: &[u8]) -> Result<Settings, SettingsFa
     let document = document_of(alloc, bytes)?;
     let written = written_of(alloc, &document)?;
     let settings = judged(alloc, &written)?;
+    Ok(settings)
+}
+
+/// The settings that a file's bytes are, also those with aggregators and limiters, which nothing serves yet:
+/// `read_settings` without its refusal `NotYet`.
+pub fn read_all_settings(alloc: Global, bytes: &[u8]) -> Result<Settings, SettingsFault>
+    ensures { IsUnlessMemory result (read_all_settings bytes.now) }
+{
+    let document = document_of(alloc, bytes)?;
+    let written = written_of(alloc, &document)?;
+    let settings = accepted(alloc, &written)?;
     Ok(settings)
 }
 
