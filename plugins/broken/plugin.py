@@ -9,6 +9,7 @@ COLUMNS = [
     {"name": "id", "kind": "int"},
     {"name": "name", "kind": "text"},
     {"name": "owner", "kind": "text", "function": "getOwner"},
+    {"name": "As", "kind": "json", "field": "more"},
 ]
 TABLE = {
     "name": "item",
@@ -17,7 +18,7 @@ TABLE = {
     "get": {"function": "getItem", "keys": [{"column": "id"}]},
     "functions": [{"name": "getOwner", "depends": ["getTags"]}, {"name": "getTags"}],
 }
-ITEMS = [{"id": 1, "name": "ant"}, {"id": 2, "name": "bee"}, {"id": 3, "name": None}]
+ITEMS = [{"id": 1, "name": "ant", "more": []}, {"id": 2, "name": "bee"}, {"id": 3, "name": None}]
 
 
 def nested(depth):
@@ -66,14 +67,26 @@ def spelled(request, reply):
     return json.dumps(line)
 
 
+def lines_in_blocks():
+    """Each line once 4,096 bytes more are there, or the input has ended."""
+    waiting = b""
+    while piece := sys.stdin.buffer.read(4096):
+        *lines, waiting = (waiting + piece).split(b"\n")
+        yield from lines
+
+
 if FAULT == "greeting":
     print("plugin started", flush=True)
-for text in sys.stdin:
+if FAULT == "slow":
+    time.sleep(11)
+for text in lines_in_blocks() if FAULT == "blocks" else sys.stdin:
     try:
         asked = json.loads(text)
         asked["id"]
     except (ValueError, KeyError, TypeError):
         continue
+    if FAULT == "strict" and asked["op"] == "nothing":
+        sys.exit("no such request")
     for answer in replies(asked):
         print(spelled(asked, answer), flush=FAULT != "not flushed")
     if FAULT == "ends too early" and asked["op"] == "version":

@@ -8,7 +8,7 @@ import threading
 import time
 
 from .lines import is_integer, json_of, reply_fault
-from .report import Stop
+from .report import Report, Stop
 
 LONGEST_LINE = 1048576
 MOST_ITEMS = 999999
@@ -21,8 +21,13 @@ class Call:
         self.number = number
         self.members = members
         self.items = []
+        self.lines = []  # of the items, and of the ending
         self.ending = None  # the name of the last line's member
         self.value = None  # and its value
+
+    def request(self):
+        members = {"id": self.number, **self.members}
+        return json.dumps(members, sort_keys=True, separators=(",", ":"), ensure_ascii=False)
 
     def name(self):
         members = self.members
@@ -40,6 +45,7 @@ class Child:
     """A running plugin, spoken to by requests; lines that fit no call are reported as they come."""
 
     def __init__(self, command, seconds, report, log=None):
+        self.command = command
         self.seconds = seconds
         self.report = report
         self.calls = {}
@@ -86,9 +92,7 @@ class Child:
         return made
 
     def send(self, *calls):
-        lines = [{"id": call.number, **call.members} for call in calls]
-        spelled = [json.dumps(line, sort_keys=True, separators=(",", ":"), ensure_ascii=False) for line in lines]
-        self.input.put("".join(line + "\n" for line in spelled).encode("utf-8"))
+        self.input.put("".join(call.request() + "\n" for call in calls).encode("utf-8"))
 
     def ask(self, **members):
         """One call with its whole reply."""
@@ -106,7 +110,7 @@ class Child:
             waits = [call for call in waits if call.ending is None]
             if waits and self.has_ended:
                 words = f"the plugin ended before it had answered {waits[0].name()}, with status {self.status()}"
-                self.report.wrong("ended too early", words)
+                self.report.wrong("ended too early", words, waits[0].request())
                 raise Stop
 
     def was_silent(self, call):
@@ -114,11 +118,10 @@ class Child:
         while self.take(self.seconds):
             pass
         if call.ending is None:
-            words = f"no answer to {call.name()} within {self.seconds} seconds"
-            self.report.wrong("no answer", words)
+            self.report.wrong("no answer", f"no answer to {call.name()} within {self.seconds} seconds", call.request())
         else:
-            words = f"the answer to {call.name()} came only after the input had ended: flush the output after each line"
-            self.report.wrong("not flushed", words)
+            words = f"the answer to {call.name()} came only {why_late(self.command, call, self.seconds)}"
+            self.report.wrong("late", words, call.lines[-1])
         raise Stop
 
     def take(self, seconds):
@@ -163,11 +166,13 @@ class Child:
             call.ending = "wrong"
         elif kind == "item":
             call.items.append(value["item"])
+            call.lines.append(line)
             if len(call.items) > MOST_ITEMS:
-                self.report.wrong("too many items", f"{call.name()} gave more than {MOST_ITEMS} items")
+                self.report.wrong("too many items", f"{call.name()} gave more than {MOST_ITEMS} items", line)
                 raise Stop
         else:
             call.ending, call.value = kind, value[kind]
+            call.lines.append(line)
 
     def ends_badly(self, value):
         """A line of another form that was to end a reply ends it here, so that the rest can be tried."""
@@ -182,7 +187,7 @@ class Child:
             return "unknown"
 
     def ends_with_its_input(self):
-        """Ends the input, and waits for the plugin to end."""
+        """Ends the input, and waits for the plugin to end; Stop where it doesn't."""
         self.input.put(None)
         until = time.monotonic() + self.seconds
         while time.monotonic() < until and self.take(max(0.0, until - time.monotonic())):
@@ -192,6 +197,7 @@ class Child:
         except subprocess.TimeoutExpired:
             words = f"{self.seconds} seconds after the end of its input the plugin still runs; steampipe waits half a second"
             self.report.wrong("runs on", words)
+            raise Stop from None
 
     def stop(self):
         try:
@@ -199,3 +205,28 @@ class Child:
         except ProcessLookupError:
             pass
         self.process.wait()
+
+
+def why_late(command, late, seconds):
+    """Why the answer to a call came only after the input had ended, found by another start of the plugin."""
+    report = Report()
+    report.is_silent = True
+    child = Child(command, seconds, report, subprocess.DEVNULL)
+    try:
+        begun = time.monotonic()
+        if is_answered(child, [child.call(**late.members)], 2 * seconds):
+            return f"after {time.monotonic() - begun:.1f} seconds; `--seconds N` gives it more time"
+        # Few answers to much input fill no buffer of the output: where one comes, the input waits in one.
+        much = [child.call(op="version", tick=0, connection="c" * 65536) for _ in range(5)]
+        if late.number == 1 and is_answered(child, much, seconds):
+            return "after the input had ended: the plugin reads it in blocks, not line by line (mawk: use mawk -W interactive)"
+        return "after the input had ended: flush the output after each line"
+    finally:
+        child.stop()
+
+
+def is_answered(child, calls, seconds):
+    """Whether something comes for one of them within that time."""
+    child.send(*calls)
+    child.take(seconds)
+    return any(call.lines for call in child.calls.values())

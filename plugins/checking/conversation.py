@@ -3,7 +3,7 @@ import json
 
 from .declaration import Declaration, Refused, order_of
 from .lines import is_integer
-from .report import Report, Stop, shown
+from .report import shown
 
 FITS = {
     "bool": lambda value: isinstance(value, bool),
@@ -20,12 +20,12 @@ def check_fields(report, call, table, function):
             continue
         field = column.get("field", column["name"])
         if call.items and all(field not in item for item in call.items):
-            report.note("fields that aren't there", f"{call.name()}: no item has the field {field}")
-        for item in call.items:
+            report.note("fields that aren't there", f"{call.name()}: no item has the field {field}", call.lines[0])
+        for item, line in zip(call.items, call.lines):
             value = item.get(field)
             if value is not None and not FITS[column["kind"]](value):
                 words = f"{call.name()}: column {column['name']} is {column['kind']}, and not {shown(json.dumps(value))}"
-                report.wrong(f"another kind of value in {table['name']}.{column['name']}", words)
+                report.wrong(f"another kind of value in {table['name']}.{column['name']}", words, line)
 
 
 def field_of(table, item, name):
@@ -51,12 +51,12 @@ class Conversation:
                 Declaration(declared.value)
                 self.tables = declared.value["tables"]
             except Refused as refused:
-                self.report.wrong("declaration", f"the declaration is refused: {refused}")
+                self.report.wrong("declaration", f"the declaration is refused: {refused}", json.dumps(refused.part))
         told = self.child.ask(op="version", tick=0)
         if told.ending == "version":
             self.version = told.value
         elif told.ending == "error":
-            self.report.note("version", f"the version is an error: {told.value}")
+            self.report.note("version", "the version is an error", told.lines[-1])
         for table in self.tables:
             self.try_table(table)
         self.ask_at_once()
@@ -65,10 +65,10 @@ class Conversation:
         """A call of a table with its whole reply; an error is noted."""
         call = self.child.ask(table=table["name"], version=self.version, attempt=1, **members)
         if call.ending == "error":
-            self.report.note(f"errors of {table['name']}", f"{call.name()} ends with the error {call.value}")
+            self.report.note(f"errors of {table['name']}", f"{call.name()} ends with an error", call.lines[-1])
             if ":" not in call.value:
                 words = "an error of the form `CODE: message` can be told from others by the pattern `CODE:*`"
-                self.report.note("errors without a code", words)
+                self.report.note("errors without a code", words, call.lines[-1])
         return call
 
     def try_table(self, table):
@@ -90,10 +90,10 @@ class Conversation:
     def check_conditions(self, call, table):
         """What was asked for by `=` stands in each item."""
         for name, _, value in call.members["conditions"]:
-            for item in call.items:
+            for item, line in zip(call.items, call.lines):
                 if field_of(table, item, name) != value and not self.is_hydrated(table, name):
                     words = f"{call.name()} gave an item with another {name}"
-                    self.report.wrong(f"items that weren't asked for by {table['name']}.{name}", words, json.dumps(item))
+                    self.report.wrong(f"items that weren't asked for by {table['name']}.{name}", words, line)
 
     def is_hydrated(self, table, name):
         return any(column["name"] == name and "function" in column for column in table["columns"])
@@ -133,9 +133,10 @@ class Conversation:
             call = self.ask(table, op="get", function=table["get"]["function"], conditions=conditions)
             if len(call.items) > 1:
                 words = f"{call.name()} gave {len(call.items)} items; a get gives one at most"
-                self.report.wrong("too many items of a get", words)
+                self.report.wrong("too many items of a get", words, call.lines[1])
             elif not call.items and call.ending == "end":
-                self.report.note("gets without an item", f"{call.name()} gave nothing, though it was listed")
+                words = f"{call.name()} gave nothing, though it was listed"
+                self.report.note("gets without an item", words, call.request())
             check_fields(self.report, call, table, None)
             self.check_conditions(call, table)
             found += call.items
@@ -153,7 +154,7 @@ class Conversation:
             call = self.ask(table, op="hydrate", function=name, item=item, results=handed)
             if len(call.items) > 1:
                 words = f"{call.name()} gave {len(call.items)} items; a function gives one at most"
-                self.report.wrong("too many items of a function", words)
+                self.report.wrong("too many items of a function", words, call.lines[1])
             if call.ending == "end":
                 results[name] = call.items[0] if call.items else None
             check_fields(self.report, call, table, name)
@@ -170,38 +171,3 @@ class Conversation:
         calls.append(self.child.call(op="version", tick=2))
         self.child.send(*calls)
         self.child.wait_for(calls)
-
-
-def try_unknown_requests(child, report):
-    """Requests of a later kind and of an unknown table: the plugin goes on."""
-    child.ask(op="version", tick=0)
-    unknown = child.call(op="nothing")
-    no_table = child.call(
-        op="list", table="no such table", function="no such function", version=0, attempt=1, conditions=[], parent=None
-    )
-    after = child.call(op="version", tick=3)
-    child.send(unknown, no_table, after)
-    child.wait_for([after])
-    child.take(0.2)
-    for call, what in [(unknown, "a request of an unknown kind"), (no_table, "a list of a table that isn't declared")]:
-        if call.ending != "error":
-            report.note(what, f"{what} isn't answered by an error (steampipe sends none)")
-
-
-BAD_LINES = [b"no JSON", b"", b"[]", b"{}", b'{"id":', b'{"id":"x","op":"version"}', b"\xff"]
-
-
-def try_bad_lines(child, report):
-    """Lines that are no requests; steampipe sends none, so what comes of them is only noted."""
-    child.ask(op="version", tick=0)
-    child.report = Report()
-    child.report.is_silent = True
-    child.input.put(b"".join(line + b"\n" for line in BAD_LINES))
-    try:
-        child.ask(op="version", tick=4)
-    except Stop:
-        report.note("bad lines", "a line that is no request ends the plugin, or it answers no more (steampipe sends none)")
-        raise
-    if child.report.counts:
-        words = "a line that is no request is answered by a line that fits no call (steampipe sends none)"
-        report.note("bad lines", words)

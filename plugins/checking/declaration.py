@@ -3,7 +3,11 @@ from .lines import is_integer, is_text
 
 
 class Refused(Exception):
-    """The declaration breaks a rule."""
+    """The declaration breaks a rule, in this part of it."""
+
+    def __init__(self, words, part):
+        super().__init__(words)
+        self.part = part
 
 
 KINDS = ["bool", "int", "text", "json"]
@@ -16,34 +20,37 @@ class Declaration:
 
     def __init__(self, value):
         self.place = "outside of tables"
+        self.part = value
         self.limits = []
         self.members(value, "the declaration", ["tables"], RULES)
         self.rules(value, "the declaration")
         self.most(self.array(value, "tables"), 512, "`tables`")
         self.each_table(value["tables"], self.table_shape)
-        self.place = "outside of tables"
+        self.place, self.part = "outside of tables", value
         self.distinct([table["name"] for table in value["tables"]], "two tables")
         for rule in [self.table_names, self.table_functions, self.table_circles, self.table_keys, self.table_access]:
             self.each_table(value["tables"], rule)
         if self.limits:
-            raise Refused(self.limits[0])
+            raise self.limits[0]
 
     def each_table(self, tables, rule):
         for at, table in enumerate(tables):
             name = table.get("name") if isinstance(table, dict) else None
             self.place = f"in table {at + 1}" + (f" ({name})" if isinstance(name, str) else "")
+            self.part = table
             rule(table)
 
     def refuse(self, kind, words):
-        raise Refused(f"{kind} {self.place}: {words}")
+        raise Refused(f"{kind} {self.place}: {words}", self.part)
 
     def limit(self, words):
         """Kept until all else was looked at."""
-        self.limits.append(f"limit {self.place}: {words}")
+        self.limits.append(Refused(f"limit {self.place}: {words}", self.part))
 
     # -- forms
 
     def members(self, value, what, needed, others):
+        self.part = value
         if not isinstance(value, dict):
             self.refuse("shape", f"{what} is no object")
         for name in needed:

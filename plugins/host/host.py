@@ -175,20 +175,25 @@ def users():
 
 def mounts():
     # How full a file system is isn't asked here: where a server doesn't answer, that call doesn't return.
-    for line in read_lines("/proc/self/mountinfo"):
-        mount, _, device = line.partition(b" - ")
-        fields, (kind, source, *_) = mount.split(b" "), device.split(b" ")
-        options = text(fields[5]).split(",")
-        yield {
-            "mount_id": int(fields[0]),
-            "parent_id": int(fields[1]),
-            "mount_point": text(unescaped(fields[4])),
-            "root": text(unescaped(fields[3])),
-            "file_system": text(kind),
-            "source": text(unescaped(source)),
-            "read_only": "ro" in options,
-            "options": options,
-        }
+    return (mount_of(line) for line in read_lines("/proc/self/mountinfo"))
+
+
+def mount_of(line):
+    """A line has the mount's fields, " - ", and its file system's. Both have options, and each may be what forbids to write."""
+    mount, _, file_system = line.partition(b" - ")
+    fields, (kind, source, *further) = mount.split(b" "), file_system.split(b" ")
+    options = [text(unescaped(word)) for word in b",".join([fields[5], *further]).split(b",")]
+    read_only = "ro" in options
+    return {
+        "mount_id": int(fields[0]),
+        "parent_id": int(fields[1]),
+        "mount_point": text(unescaped(fields[4])),
+        "root": text(unescaped(fields[3])),
+        "file_system": text(kind),
+        "source": text(unescaped(source)),
+        "read_only": read_only,
+        "options": list(dict.fromkeys(word for word in options if word != ("rw" if read_only else "ro"))),
+    }
 
 
 def unescaped(word):

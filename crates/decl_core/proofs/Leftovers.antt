@@ -6,142 +6,28 @@ use Rattle.std.proofs.Math.Bool.{or-true}
 use Rattle.std.proofs.lemmas.Bool.{or_parts}
 use Rattle.std.proofs.lemmas.Slice.Eq.{bytes_eq-Decides}
 use Rattle.sp_model.specs.declared.declaration.FunctionDecl.{FunctionDecl}
-use Rattle.decl_words.specs.Leftover.{names_of_functions, waits_for, still_waiting, after_rounds, leftover}
-use Rattle.decl_words.specs.Members.{is_among}
+use Rattle.sp_model.specs.Hydration.{names_of_functions}
+use Rattle.decl_words.specs.Leftover.{waits_for, still_waiting, after_rounds, leftover}
+use Rattle.sp_model.specs.Names.{has_name}
 use Rattle.decl_words.specs.Refusals.{repeats, is_unknown, depends_on_unknown}
 use Rattle.decl_core.specs.Taking.{stays, can_be_taken, with_taken, after_turns, takes_one, at_places}
-use Rattle.decl_core.proofs.NameSets.{is_among-push, is_among-added}
-
--- ---- members of a list
-
--- x is one of the list
-abbrev pub In : {X : Type 0} → X → List X → Type 0
-In x [] = ⊥
-In x (y ∷ ys) = (x ≡ y) ⊎ In x ys
-
-module _ {X : Type 0} (p : X → Bool) where
-  -- what a filter keeps, where the first passes or doesn't
-  kept-cond : (x : X) (xs : List X) (y : X) (b : Bool) → p x ≡ b → In y (cond b (x ∷ xs) xs) → ((y ≡ x) × (p x ≡ true)) ⊎ In y xs
-  kept-cond x xs y true e (inl h) = inl (h, e)
-  kept-cond x xs y true e (inr h) = inr h
-  kept-cond x xs y false e h = inr h
-
-  pub In-filter : (xs : List X) (y : X) → In y (filter p xs) → In y xs × (p y ≡ true)
-  In-filter [] y h = absurd h
-  In-filter (x ∷ xs) y h = elim (kept-cond x (filter p xs) y (p x) refl h) [
-    | inl w ↦ (inl w.0, subst (λ z. p z ≡ true) (sym w.0) w.1)
-    | inr w ↦ let r = In-filter xs y w in (inr r.0, r.1)
-  ]
-
-  in-cond : (x : X) (xs : List X) (y : X) (b : Bool) → p x ≡ b → ((y ≡ x) × (p x ≡ true)) ⊎ In y xs → In y (cond b (x ∷ xs) xs)
-  in-cond x xs y true e (inl w) = inl w.0
-  in-cond x xs y true e (inr w) = inr w
-  in-cond x xs y false e (inl w) = absurd (true≢false (sym w.1 ∙ e))
-  in-cond x xs y false e (inr w) = w
-
-  pub filter-In : (xs : List X) (y : X) → In y xs → p y ≡ true → In y (filter p xs)
-  filter-In [] y h e = absurd h
-  filter-In (x ∷ xs) y (inl h) e = in-cond x (filter p xs) y (p x) refl (inl (h, subst (λ z. p z ≡ true) h e))
-  filter-In (x ∷ xs) y (inr h) e = in-cond x (filter p xs) y (p x) refl (inr (filter-In xs y h e))
-
-  -- a filter keeps all, or less
-  pub filter-shorter : (xs : List X) → (filter p xs ≡ xs) ⊎ (length (filter p xs) < length xs)
-  filter-shorter [] = inl refl
-  filter-shorter (x ∷ xs) = by (p x) (filter-shorter xs)
-    where
-      by : (b : Bool) → (filter p xs ≡ xs) ⊎ (length (filter p xs) < length xs) → (cond b (x ∷ filter p xs) (filter p xs) ≡ x ∷ xs) ⊎ (length (cond b (x ∷ filter p xs) (filter p xs)) < suc (length xs))
-      by true (inl e) = inl (ap (λ ys. x ∷ ys) e)
-      by true (inr h) = inr (omega (arith, h))
-      by false (inl e) = inr (omega (arith, ap length e))
-      by false (inr h) = inr (omega (arith, h))
-
-  -- a filter that all pass
-  pub filter-all : (xs : List X) → ((y : X) → In y xs → p y ≡ true) → filter p xs ≡ xs
-  filter-all [] all = refl
-  filter-all (x ∷ xs) all = ap (λ b. cond b (x ∷ filter p xs) (filter p xs)) (all x (inl refl)) ∙ ap (λ ys. x ∷ ys) (filter-all xs (λ y h. all y (inr h)))
-
--- a filter after one that lets all pass that it does
-pub filter-filter : {X : Type 0} (q p : X → Bool) (xs : List X) → ((y : X) → In y xs → q y ≡ true → p y ≡ true) → filter q (filter p xs) ≡ filter q xs
-filter-filter q p [] all = refl
-filter-filter q p (x ∷ xs) all = by (filter-filter q p xs (λ y h. all y (inr h))) (p x) (q x) refl refl
-  where
-    by : filter q (filter p xs) ≡ filter q xs → (b c : Bool) → p x ≡ b → q x ≡ c → filter q (cond b (x ∷ filter p xs) (filter p xs)) ≡ cond c (x ∷ filter q xs) (filter q xs)
-    by rest true c e f = ap (λ d. cond d (x ∷ filter q (filter p xs)) (filter q (filter p xs))) f ∙ ap (λ ys. cond c (x ∷ ys) ys) rest
-    by rest false true e f = absurd (true≢false (sym (all x (inl refl) f) ∙ e))
-    by rest false false e f = rest
-
--- some passes p where it is not so that all pass q
-pub some_fails : {X : Type 0} (q p : X → Bool) (xs : List X) → list_all q xs ≡ false → ((y : X) → In y xs → q y ≡ false → p y ≡ true) → list_any p xs ≡ true
-some_fails q p [] none is = absurd (true≢false none)
-some_fails q p (x ∷ xs) none is = by (λ h. some_fails q p xs h (λ y at. is y (inr at))) (q x) refl none
-  where
-    by : (list_all q xs ≡ false → list_any p xs ≡ true) → (b : Bool) → q x ≡ b → (b && list_all q xs) ≡ false → (p x || list_any p xs) ≡ true
-    by rest true e none = ap (λ b. p x || b) (rest none) ∙ or-true (p x)
-    by rest false e none = ap (λ b. b || list_any p xs) (is x (inl refl) e)
-
--- none passes p where all pass q
-pub none_passes : {X : Type 0} (q p : X → Bool) (xs : List X) → list_all q xs ≡ true → ((y : X) → q y ≡ true → p y ≡ false) → list_any p xs ≡ false
-none_passes q p [] all is = refl
-none_passes q p (x ∷ xs) all is = by (λ h. none_passes q p xs h is) (q x) refl all
-  where
-    by : (list_all q xs ≡ true → list_any p xs ≡ false) → (b : Bool) → q x ≡ b → (b && list_all q xs) ≡ true → (p x || list_any p xs) ≡ false
-    by rest true e all = ap (λ b. b || list_any p xs) (is x e) ∙ rest all
-    by rest false e all = absurd (true≢false (sym all))
-
--- each passes where all pass
-pub In-all : {X : Type 0} (p : X → Bool) (xs : List X) (y : X) → list_all p xs ≡ true → In y xs → p y ≡ true
-In-all p [] y all h = absurd h
-In-all p (x ∷ xs) y all h = by (In-all p xs y) (p x) refl all h
-  where
-    by : (list_all p xs ≡ true → In y xs → p y ≡ true) → (b : Bool) → p x ≡ b → (b && list_all p xs) ≡ true → (y ≡ x) ⊎ In y xs → p y ≡ true
-    by rest true e all (inl same) = ap p same ∙ e
-    by rest true e all (inr there) = rest all there
-    by rest false e all h = absurd (true≢false (sym all))
-
--- none passes where not some pass
-pub In-none : {X : Type 0} (p : X → Bool) (xs : List X) (y : X) → list_any p xs ≡ false → In y xs → p y ≡ false
-In-none p [] y none h = absurd h
-In-none p (x ∷ xs) y none (inl h) = ap p h ∙ (or_parts (p x) (list_any p xs) none).0
-In-none p (x ∷ xs) y none (inr h) = In-none p xs y (or_parts (p x) (list_any p xs) none).1 h
-
-pub not-false-is : (b : Bool) → not b ≡ false → b ≡ true
-not-false-is true h = refl
-not-false-is false h = absurd (true≢false h)
-
--- what stands at a place is in the list
-pub slice_get-In : {X : Type 0} (xs : List X) (i : ℕ) (x : X) → slice_get xs i ≡ Some x → In x xs
-slice_get-In [] i x h = absurd (cc)
-slice_get-In (y ∷ ys) zero x h = inl (cc)
-slice_get-In (y ∷ ys) (suc i) x h = inr (slice_get-In ys i x h)
-
--- ---- functions under their names
-
-pub named : (functions : List FunctionDecl) (name : List ℕ) → is_among (names_of_functions functions) name ≡ true
-    → (g : FunctionDecl) × (In g functions × (g.name ≡ name))
-named [] name h = absurd (true≢false (sym h))
-named (f ∷ fs) name h = by (named fs name) (bytes_eq name f.name) refl h
-  where
-    by : (is_among (names_of_functions fs) name ≡ true → (g : FunctionDecl) × (In g fs × (g.name ≡ name))) → (b : Bool) → bytes_eq name f.name ≡ b → (b || is_among (names_of_functions fs) name) ≡ true → (g : FunctionDecl) × (In g (f ∷ fs) × (g.name ≡ name))
-    by rest true e h = (f, (inl refl, sym ((bytes_eq-Decides name f.name).0 e)))
-    by rest false e h = let r = rest h in (r.0, (inr r.1.0, r.1.1))
-
-pub is_among-In : (functions : List FunctionDecl) (g : FunctionDecl) → In g functions → is_among (names_of_functions functions) g.name ≡ true
-is_among-In [] g h = absurd h
-is_among-In (f ∷ fs) g (inl h) = ap (λ b. b || is_among (names_of_functions fs) g.name) ((bytes_eq-Decides g.name f.name).1 (ap (λ x. x.name) h))
-is_among-In (f ∷ fs) g (inr h) = ap (λ b. bytes_eq g.name f.name || b) (is_among-In fs g h) ∙ or-true (bytes_eq g.name f.name)
+use Rattle.decl_words.proofs.Lists.{In, In-filter, filter-In, filter-shorter, filter-filter, filter-all, some_fails, none_passes, In-all, slice_get-In}
+use Rattle.decl_words.proofs.Functions.{named, has_name-In, dependency-known}
+use Rattle.decl_words.proofs.Names.{has_name-push}
+use Rattle.decl_core.proofs.NameSets.{has_name-added}
 
 -- no name of those after stands before
-fresh : (before : List (List ℕ)) (functions : List FunctionDecl) → repeats before (names_of_functions functions) ≡ false → (g : FunctionDecl) → In g functions → is_among before g.name ≡ false
+fresh : (before : List (List ℕ)) (functions : List FunctionDecl) → repeats before (names_of_functions functions) ≡ false → (g : FunctionDecl) → In g functions → has_name before g.name ≡ false
 fresh before [] none g h = absurd h
-fresh before (f ∷ fs) none g (inl h) = ap (λ x. is_among before x.name) h ∙ (or_parts _ _ none).0
+fresh before (f ∷ fs) none g (inl h) = ap (λ x. has_name before x.name) h ∙ (or_parts _ _ none).0
 fresh before (f ∷ fs) none g (inr h) =
-    (or_parts _ _ (sym (is_among-push before f.name g.name) ∙ fresh (before ++ f.name ∷ []) fs (or_parts _ _ none).1 g h)).0
+    (or_parts _ _ (sym (has_name-push before f.name g.name) ∙ fresh (before ++ f.name ∷ []) fs (or_parts _ _ none).1 g h)).0
 
 later : (before : List (List ℕ)) (h : FunctionDecl) (hs : List FunctionDecl) → repeats before (names_of_functions (h ∷ hs)) ≡ false
     → (g : FunctionDecl) → In g hs → g.name ≡ h.name → ⊥
 later before h hs none g there same =
-    let new : (is_among before g.name || bytes_eq g.name h.name) ≡ false =
-    sym (is_among-push before h.name g.name) ∙ fresh (before ++ h.name ∷ []) hs (or_parts _ _ none).1 g there in
+    let new : (has_name before g.name || bytes_eq g.name h.name) ≡ false =
+    sym (has_name-push before h.name g.name) ∙ fresh (before ++ h.name ∷ []) hs (or_parts _ _ none).1 g there in
     true≢false (sym ((bytes_eq-Decides g.name h.name).1 same) ∙ (or_parts _ _ new).1)
 
 -- two functions of one name are one
@@ -183,50 +69,44 @@ leftover-In functions g h = rounds-In (length functions) functions g h
 
 -- none of these names is one that remains
 pub record AreOut (functions : List FunctionDecl) (taken : List (List ℕ)) : Type 0 where
-  pub out : (name : List ℕ) → is_among taken name ≡ true → is_among (names_of_functions (leftover functions)) name ≡ false
+  pub out : (name : List ℕ) → has_name taken name ≡ true → has_name (names_of_functions (leftover functions)) name ≡ false
 
 pub none_out : (functions : List FunctionDecl) → AreOut functions []
 none_out functions = record { out = λ name h. absurd (true≢false (sym h)) }
 
 -- a function whose dependencies are all out doesn't remain
 ready-out : (functions : List FunctionDecl) (taken : List (List ℕ)) → repeats [] (names_of_functions functions) ≡ false → AreOut functions taken
-    → (f : FunctionDecl) → In f functions → list_all (is_among taken) f.depends ≡ true → is_among (names_of_functions (leftover functions)) f.name ≡ false
-ready-out functions taken distinct out f there ready = by (is_among (names_of_functions (leftover functions)) f.name) refl
+    → (f : FunctionDecl) → In f functions → list_all (has_name taken) f.depends ≡ true → has_name (names_of_functions (leftover functions)) f.name ≡ false
+ready-out functions taken distinct out f there ready = by (has_name (names_of_functions (leftover functions)) f.name) refl
   where
     left : List FunctionDecl
     left = leftover functions
 
-    by : (b : Bool) → is_among (names_of_functions (leftover functions)) f.name ≡ b → b ≡ false
+    by : (b : Bool) → has_name (names_of_functions (leftover functions)) f.name ≡ b → b ≡ false
     by false e = refl
     by true e =
         let found = named (leftover functions) f.name e in
         let same = unique [] functions distinct found.0 f (leftover-In functions found.0 found.1.0) there found.1.1 in
         let waits = (In-filter (waits_for (leftover functions)) (leftover functions) found.0 (subst (In found.0) (sym (leftover-settled functions)) found.1.0)).1 in
-        sym waits ∙ ap (waits_for (leftover functions)) same ∙ none_passes (is_among taken) (is_among (names_of_functions (leftover functions))) f.depends ready out.out
+        sym waits ∙ ap (waits_for (leftover functions)) same ∙ none_passes (has_name taken) (has_name (names_of_functions (leftover functions))) f.depends ready out.out
 
 -- one more is out
 pub out_more : (functions : List FunctionDecl) (taken new : List (List ℕ)) (added : Bool) → repeats [] (names_of_functions functions) ≡ false → AreOut functions taken
-    → (f : FunctionDecl) → In f functions → list_all (is_among taken) f.depends ≡ true
-    → added ≡ not (is_among taken f.name) → new ≡ cond added (taken ++ f.name ∷ []) taken → AreOut functions new
+    → (f : FunctionDecl) → In f functions → list_all (has_name taken) f.depends ≡ true
+    → added ≡ not (has_name taken f.name) → new ≡ cond added (taken ++ f.name ∷ []) taken → AreOut functions new
 out_more functions taken new added distinct out f there ready was is =
-    record { out = λ name h. by name (is_among taken name) refl (sym (is_among-added taken f.name new added was is name) ∙ h) }
+    record { out = λ name h. by name (has_name taken name) refl (sym (has_name-added taken f.name new added was is name) ∙ h) }
   where
-    by : (name : List ℕ) (b : Bool) → is_among taken name ≡ b → (b || bytes_eq name f.name) ≡ true → is_among (names_of_functions (leftover functions)) name ≡ false
+    by : (name : List ℕ) (b : Bool) → has_name taken name ≡ b → (b || bytes_eq name f.name) ≡ true → has_name (names_of_functions (leftover functions)) name ≡ false
     by name true e h = out.out name e
-    by name false e h = ap (is_among (names_of_functions (leftover functions))) ((bytes_eq-Decides name f.name).0 h) ∙ ready-out functions taken distinct out f there ready
+    by name false e h = ap (has_name (names_of_functions (leftover functions))) ((bytes_eq-Decides name f.name).0 h) ∙ ready-out functions taken distinct out f there ready
 
 -- a function that is taken out, or waits for one that isn't
 abbrev pub is_settled : List (List ℕ) → FunctionDecl → Bool
 is_settled taken f = not (can_be_taken taken f)
 
--- each dependency of a function is declared
-pub dependency-known : (functions : List FunctionDecl) → list_any (depends_on_unknown (names_of_functions functions)) functions ≡ false
-    → (g : FunctionDecl) → In g functions → (d : List ℕ) → In d g.depends → is_among (names_of_functions functions) d ≡ true
-dependency-known functions known g there d at =
-    not-false-is (is_among (names_of_functions functions) d) (In-none (is_unknown (names_of_functions functions)) g.depends d (In-none (depends_on_unknown (names_of_functions functions)) functions g known there) at)
-
-waits-for-one : (taken : List (List ℕ)) (g : FunctionDecl) → is_settled taken g ≡ true → stays taken g ≡ true → list_all (is_among taken) g.depends ≡ false
-waits-for-one taken g settled s = by (stays taken g) (list_all (is_among taken) g.depends) settled s
+waits-for-one : (taken : List (List ℕ)) (g : FunctionDecl) → is_settled taken g ≡ true → stays taken g ≡ true → list_all (has_name taken) g.depends ≡ false
+waits-for-one taken g settled s = by (stays taken g) (list_all (has_name taken) g.depends) settled s
   where
     by : (a b : Bool) → not (a && b) ≡ true → a ≡ true → b ≡ false
     by true true h s = sym h
@@ -240,11 +120,11 @@ module _ (functions : List FunctionDecl) (taken : List (List ℕ)) (out : AreOut
   keeps fs same =
       filter-filter (stays taken) (waits_for fs) fs (λ g there s.
       let of_all : In g functions = (In-filter (stays taken) functions g (subst (In g) same (filter-In (stays taken) fs g there s))).0 in
-      some_fails (is_among taken) (is_among (names_of_functions fs)) g.depends (waits-for-one taken g (In-all (is_settled taken) functions g all of_all) s) (λ d at not_taken.
+      some_fails (has_name taken) (has_name (names_of_functions fs)) g.depends (waits-for-one taken g (In-all (is_settled taken) functions g all of_all) s) (λ d at not_taken.
       let found = named functions d (dependency-known functions known g of_all d at) in
-      let s' : stays taken found.0 ≡ true = ap not (ap (is_among taken) found.1.1 ∙ not_taken) in
+      let s' : stays taken found.0 ≡ true = ap not (ap (has_name taken) found.1.1 ∙ not_taken) in
       let here : In found.0 fs = (In-filter (stays taken) fs found.0 (subst (In found.0) (sym same) (filter-In (stays taken) functions found.0 found.1.0 s'))).0 in
-      ap (is_among (names_of_functions fs)) (sym found.1.1) ∙ is_among-In fs found.0 here))
+      ap (has_name (names_of_functions fs)) (sym found.1.1) ∙ has_name-In fs found.0 here))
       ∙ same
 
   rounds-keep : (n : ℕ) (fs : List FunctionDecl) → filter (stays taken) fs ≡ filter (stays taken) functions → filter (stays taken) (after_rounds n fs) ≡ filter (stays taken) functions
@@ -252,10 +132,10 @@ module _ (functions : List FunctionDecl) (taken : List (List ℕ)) (out : AreOut
   rounds-keep (suc n) fs same = rounds-keep n (still_waiting fs) (keeps fs same)
 
   all_stay : (g : FunctionDecl) → In g (leftover functions) → stays taken g ≡ true
-  all_stay g h = by (is_among taken g.name) refl
+  all_stay g h = by (has_name taken g.name) refl
     where
-      by : (b : Bool) → is_among taken g.name ≡ b → not b ≡ true
-      by true e = absurd (true≢false (sym (is_among-In (leftover functions) g h) ∙ out.out g.name e))
+      by : (b : Bool) → has_name taken g.name ≡ b → not b ≡ true
+      by true e = absurd (true≢false (sym (has_name-In (leftover functions) g h) ∙ out.out g.name e))
       by false e = refl
 
   pub leftover-is : leftover functions ≡ filter (stays taken) functions
@@ -277,7 +157,7 @@ with-out functions taken distinct out f there = by (can_be_taken taken f) refl
   where
     by : (b : Bool) → can_be_taken taken f ≡ b → AreOut functions (cond b (taken ++ f.name ∷ []) taken)
     by true e =
-        let parts = stays-parts (stays taken f) (list_all (is_among taken) f.depends) e in
+        let parts = stays-parts (stays taken f) (list_all (has_name taken) f.depends) e in
         out_more functions taken (taken ++ f.name ∷ []) true distinct out f there parts.1 (sym parts.0) refl
     by false e = out
 
@@ -350,7 +230,7 @@ staying functions taken = count (stays taken) functions
 
 -- what stays after one more is taken stayed before
 stayed : (taken : List (List ℕ)) (name : List ℕ) (g : FunctionDecl) → stays (taken ++ name ∷ []) g ≡ true → stays taken g ≡ true
-stayed taken name g h = by (is_among taken g.name) (bytes_eq g.name name) (ap not (sym (is_among-push taken name g.name)) ∙ h)
+stayed taken name g h = by (has_name taken g.name) (bytes_eq g.name name) (ap not (sym (has_name-push taken name g.name)) ∙ h)
   where
     by : (a b : Bool) → not (a || b) ≡ true → not a ≡ true
     by true b h = h
@@ -358,12 +238,12 @@ stayed taken name g h = by (is_among taken g.name) (bytes_eq g.name name) (ap no
 
 -- the one that is taken doesn't stay
 gone : (taken : List (List ℕ)) (f : FunctionDecl) → stays (taken ++ f.name ∷ []) f ≡ false
-gone taken f = ap not (is_among-push taken f.name f.name ∙ ap (λ b. is_among taken f.name || b) ((bytes_eq-Decides f.name f.name).1 refl) ∙ or-true (is_among taken f.name))
+gone taken f = ap not (has_name-push taken f.name f.name ∙ ap (λ b. has_name taken f.name || b) ((bytes_eq-Decides f.name f.name).1 refl) ∙ or-true (has_name taken f.name))
 
 fewer-with : (functions : List FunctionDecl) (taken : List (List ℕ)) (f : FunctionDecl) → In f functions → (b : Bool) → can_be_taken taken f ≡ b
     → staying functions (cond b (taken ++ f.name ∷ []) taken) + cond b 1 0 ≤ staying functions taken
 fewer-with functions taken f there true e =
-    omega (arith, count-lt (stays taken) (stays (taken ++ f.name ∷ [])) (stayed taken f.name) functions f there (stays-parts (stays taken f) (list_all (is_among taken) f.depends) e).0 (gone taken f))
+    omega (arith, count-lt (stays taken) (stays (taken ++ f.name ∷ [])) (stayed taken f.name) functions f there (stays-parts (stays taken f) (list_all (has_name taken) f.depends) e).0 (gone taken f))
 fewer-with functions taken f there false e = omega arith
 
 -- one less where one is taken out

@@ -6,15 +6,16 @@ use Rattle.std.proofs.lemmas.List.Folds.{list_any-append}
 use Rattle.std.proofs.lemmas.Slice.Eq.{bytes_eq-Decides}
 use Rattle.std.specs.List.{list_any, position_or_len}
 use Rattle.indexmap.specs.IndexSet.{insert_key}
-use Rattle.decl_words.specs.Members.{is_among}
+use Rattle.sp_model.specs.Names.{has_name}
+use Rattle.decl_words.proofs.Names.{has_name-push}
 
 abbrev pub names : List (Bor (List ℕ)) → List (List ℕ)
 names keys = map (λ k. k.now) keys
 
 -- a name is among the keys where it is among their names
-pub is_among_keys : (name : List ℕ) (keys : List (Bor (List ℕ))) → is_among (names keys) name ≡ list_any (λ k. bytes_eq name k.now) keys
-is_among_keys name [] = refl
-is_among_keys name (k ∷ ks) = ap (λ b. bytes_eq name k.now || b) (is_among_keys name ks)
+pub has_name_keys : (name : List ℕ) (keys : List (Bor (List ℕ))) → has_name (names keys) name ≡ list_any (λ k. bytes_eq name k.now) keys
+has_name_keys name [] = refl
+has_name_keys name (k ∷ ks) = ap (λ b. bytes_eq name k.now || b) (has_name_keys name ks)
 
 place_or_len : (name : List ℕ) (keys : List (Bor (List ℕ))) → position_or_len (bytes_eq name) (names keys) ≡ position_or_len (λ k. bytes_eq name k.now) keys
 place_or_len name [] = refl
@@ -26,8 +27,8 @@ position_of_key name keys = rw (place_or_len name keys, length-map keys (λ k. k
 
 -- a name that goes to the end of the keys goes to the end of their names
 pub names_of_insert : (name : Bor (List ℕ)) (keys : List (Bor (List ℕ)))
-    → names (insert_key (λ x y. bytes_eq x.now y.now) keys name) ≡ cond (not (is_among (names keys) name.now)) (names keys ++ name.now ∷ []) (names keys)
-names_of_insert name keys = rw (is_among_keys name.now keys) (by (list_any (λ k. bytes_eq name.now k.now) keys))
+    → names (insert_key (λ x y. bytes_eq x.now y.now) keys name) ≡ cond (not (has_name (names keys) name.now)) (names keys ++ name.now ∷ []) (names keys)
+names_of_insert name keys = rw (has_name_keys name.now keys) (by (list_any (λ k. bytes_eq name.now k.now) keys))
   where
     by : (b : Bool) → names (cond b keys (keys ++ name ∷ [])) ≡ cond (not b) (names keys ++ name.now ∷ []) (names keys)
     by true = refl
@@ -37,35 +38,31 @@ or-assoc : (a b c : Bool) → ((a || b) || c) ≡ (a || (b || c))
 or-assoc true b c = refl
 or-assoc false b c = refl
 
--- one name more at the end
-pub is_among-push : (names : List (List ℕ)) (name q : List ℕ) → is_among (names ++ name ∷ []) q ≡ (is_among names q || bytes_eq q name)
-is_among-push names name q = list_any-append (bytes_eq q) names (name ∷ []) ∙ ap (λ b. is_among names q || b) (or-false (bytes_eq q name))
-
 -- a name that is there already changes nothing
-is_among-again : (names : List (List ℕ)) (name q : List ℕ) → is_among names name ≡ true → is_among names q ≡ (is_among names q || bytes_eq q name)
-is_among-again names name q there = by (bytes_eq q name) refl
+has_name-again : (names : List (List ℕ)) (name q : List ℕ) → has_name names name ≡ true → has_name names q ≡ (has_name names q || bytes_eq q name)
+has_name-again names name q there = by (bytes_eq q name) refl
   where
-    by : (b : Bool) → bytes_eq q name ≡ b → is_among names q ≡ (is_among names q || b)
-    by true same = ap (is_among names) ((bytes_eq-Decides q name).0 same) ∙ there ∙ sym (or-true (is_among names q))
-    by false other = sym (or-false (is_among names q))
+    by : (b : Bool) → bytes_eq q name ≡ b → has_name names q ≡ (has_name names q || b)
+    by true same = ap (has_name names) ((bytes_eq-Decides q name).0 same) ∙ there ∙ sym (or-true (has_name names q))
+    by false other = sym (or-false (has_name names q))
 
 not-false : (b : Bool) → false ≡ not b → b ≡ true
 not-false true h = refl
 not-false false h = absurd (cc)
 
 -- what is among the names after an insertion
-pub is_among-added : (names : List (List ℕ)) (name : List ℕ) (new : List (List ℕ)) (added : Bool)
-    → added ≡ not (is_among names name) → new ≡ cond added (names ++ name ∷ []) names
-    → (q : List ℕ) → is_among new q ≡ (is_among names q || bytes_eq q name)
-is_among-added names name new added was is q = ap (λ s. is_among s q) is ∙ by added was
+pub has_name-added : (names : List (List ℕ)) (name : List ℕ) (new : List (List ℕ)) (added : Bool)
+    → added ≡ not (has_name names name) → new ≡ cond added (names ++ name ∷ []) names
+    → (q : List ℕ) → has_name new q ≡ (has_name names q || bytes_eq q name)
+has_name-added names name new added was is q = ap (λ s. has_name s q) is ∙ by added was
   where
-    by : (b : Bool) → b ≡ not (is_among names name) → is_among (cond b (names ++ name ∷ []) names) q ≡ (is_among names q || bytes_eq q name)
-    by true w = is_among-push names name q
-    by false w = is_among-again names name q (not-false (is_among names name) w)
+    by : (b : Bool) → b ≡ not (has_name names name) → has_name (cond b (names ++ name ∷ []) names) q ≡ (has_name names q || bytes_eq q name)
+    by true w = has_name-push names name q
+    by false w = has_name-again names name q (not-false (has_name names name) w)
 
 -- and then the rest
-pub is_among-insert : (names : List (List ℕ)) (name : List ℕ) (new : List (List ℕ)) (added : Bool)
-    → added ≡ not (is_among names name) → new ≡ cond added (names ++ name ∷ []) names
-    → (q : List ℕ) (rest : Bool) → (is_among new q || rest) ≡ (is_among names q || (bytes_eq q name || rest))
-is_among-insert names name new added was is q rest =
-    ap (λ b. b || rest) (is_among-added names name new added was is q) ∙ or-assoc (is_among names q) (bytes_eq q name) rest
+pub has_name-insert : (names : List (List ℕ)) (name : List ℕ) (new : List (List ℕ)) (added : Bool)
+    → added ≡ not (has_name names name) → new ≡ cond added (names ++ name ∷ []) names
+    → (q : List ℕ) (rest : Bool) → (has_name new q || rest) ≡ (has_name names q || (bytes_eq q name || rest))
+has_name-insert names name new added was is q rest =
+    ap (λ b. b || rest) (has_name-added names name new added was is q) ∙ or-assoc (has_name names q) (bytes_eq q name) rest

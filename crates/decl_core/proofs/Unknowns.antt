@@ -4,14 +4,14 @@ use Rattle.std.specs.List.{list_any}
 use Rattle.std.specs.Option.{option_map_or}
 use Rattle.sp_model.specs.declared.declaration.ColumnDecl.{ColumnDecl}
 use Rattle.sp_model.specs.declared.declaration.FunctionDecl.{FunctionDecl}
-use Rattle.decl_words.specs.Members.{is_among}
+use Rattle.sp_model.specs.Names.{has_name}
 use Rattle.decl_words.specs.Refusals.{is_unknown, column_is_unknown, depends_on_unknown}
 
 any-same : {X : Type 0} (p q : X → Bool) → ((x : X) → p x ≡ q x) → (xs : List X) → list_any p xs ≡ list_any q xs
 any-same p q same [] = refl
 any-same p q same (x ∷ xs) = ap (λ b. b || list_any p xs) (same x) ∙ ap (λ b. q x || b) (any-same p q same xs)
 
-module _ (s t : List (List ℕ)) (same : (name : List ℕ) → is_among s name ≡ is_among t name) where
+module _ (s t : List (List ℕ)) (same : (name : List ℕ) → has_name s name ≡ has_name t name) where
   column_by : (c : ColumnDecl) → column_is_unknown s c ≡ column_is_unknown t c
   column_by c = by c.function
     where

@@ -1,8 +1,9 @@
 ghost use Rattle.std.specs.Prelude.{◌≡◌, ℕ, List, codes, IfOk, option_and_then};
 ghost use Rattle.serde_json.specs.Find.{get};
 ghost use Rattle.serde_json.specs.View.{view};
-ghost use Rattle.decl_words.specs.Columns.{columns_of, names_of_columns, hydrated};
-ghost use Rattle.decl_words.specs.Members.{is_among};
+ghost use Rattle.sp_model.specs.RowOf.{names_of_columns};
+ghost use Rattle.decl_words.specs.Columns.{columns_of, hydrated};
+ghost use Rattle.sp_model.specs.Names.{has_name};
 
 use crate::from_json::{FromJson, has_only, optional, optional_or, required};
 use crate::name_set::NameSet;
@@ -90,7 +91,7 @@ pub fn columns_at(alloc: Global, value: &Value) -> Result<Option<Items<ColumnDec
 }
 
 fn column_names<'a>(alloc: Global, columns: &'a [ColumnDecl]) -> Result<NameSet<'a>, Memory>
-    ensures { IfOk result (λ s. (name : List ℕ) → is_among s name ≡ is_among (names_of_columns columns.now) name) }
+    ensures { IfOk result (λ s. (name : List ℕ) → has_name s name ≡ has_name (names_of_columns columns.now) name) }
 {
     let mut names = NameSet::new(alloc);
     for column in columns {
@@ -100,7 +101,7 @@ fn column_names<'a>(alloc: Global, columns: &'a [ColumnDecl]) -> Result<NameSet<
 }
 
 fn hydrated_names<'a>(alloc: Global, columns: &'a [ColumnDecl]) -> Result<NameSet<'a>, Memory>
-    ensures { IfOk result (λ s. (name : List ℕ) → is_among s name ≡ is_among (hydrated columns.now) name) }
+    ensures { IfOk result (λ s. (name : List ℕ) → has_name s name ≡ has_name (hydrated columns.now) name) }
 {
     let mut names = NameSet::new(alloc);
     for column in columns {
@@ -122,14 +123,15 @@ pub struct KeyColumns<'a> {
 impl<'a> Model for KeyColumns<'a> {
     ghost use Rattle.std.specs.Prelude.{◌≡◌, List, ℕ};
     ghost use Rattle.sp_model.specs.declared.declaration.ColumnDecl.{ColumnDecl as Column};
-    ghost use Rattle.decl_words.specs.Columns.{names_of_columns, hydrated as hydrated_of};
-    ghost use Rattle.decl_words.specs.Members.{is_among};
+    ghost use Rattle.sp_model.specs.RowOf.{names_of_columns};
+    ghost use Rattle.decl_words.specs.Columns.{hydrated as hydrated_of};
+    ghost use Rattle.sp_model.specs.Names.{has_name};
 
     ghost Value = { List Column };
 
     ghost view = { λ k. k.columns.now };
 
-    ghost invariant = { λ k. ((name : List ℕ) → is_among k.names name ≡ is_among (names_of_columns k.columns.now) name) × ((name : List ℕ) → is_among k.hydrated name ≡ is_among (hydrated_of k.columns.now) name) };
+    ghost invariant = { λ k. ((name : List ℕ) → has_name k.names name ≡ has_name (names_of_columns k.columns.now) name) × ((name : List ℕ) → has_name k.hydrated name ≡ has_name (hydrated_of k.columns.now) name) };
 }
 
 impl<'a> KeyColumns<'a> {
@@ -148,14 +150,14 @@ impl<'a> KeyColumns<'a> {
 
     /// Whether there is a column of that name.
     pub fn contains(&self, name: &str) -> bool
-        ensures { result ≡ is_among (names_of_columns self.now) name.now }
+        ensures { result ≡ has_name (names_of_columns self.now) name.now }
     {
         self.names.contains(name)
     }
 
     /// Whether there is a column of that name with a function.
     pub fn is_hydrated(&self, name: &str) -> bool
-        ensures { result ≡ is_among (hydrated self.now) name.now }
+        ensures { result ≡ has_name (hydrated self.now) name.now }
     {
         self.hydrated.contains(name)
     }

@@ -2,8 +2,8 @@ ghost use Rattle.std.specs.Prelude.{◌≡◌, IfOk, map, option_and_then};
 ghost use Rattle.std.specs.List.{list_all};
 ghost use Rattle.serde_json.specs.Find.{get};
 ghost use Rattle.serde_json.specs.View.{view, items_view, members_view};
-ghost use Rattle.sp_model.specs.Names.{is_plain_byte};
-ghost use Rattle.decl_words.specs.Members.{is_among, are_among, has_only, optional, optional_or, each, is_plain_text};
+ghost use Rattle.sp_model.specs.Names.{has_name, is_plain_byte};
+ghost use Rattle.decl_words.specs.Members.{are_among, has_only, optional, optional_or, each, is_plain_text};
 
 use crate::words::{backoff_of, kind_of, matching_of, need_of, operator_of};
 use serde_json::{Map, Value};
@@ -137,9 +137,7 @@ fn each<T: FromJson>(alloc: Global, values: &Vec<Value>) -> Result<Option<Items<
         let Some(item) = T::from_json(alloc, value)? else {
             return Ok(None);
         };
-        let Ok(()) = items.push(item) else {
-            return Err(Memory);
-        };
+        items.push(item)?;
     }
     Ok(Some(items))
 }
@@ -164,8 +162,8 @@ fn is_plain_text(name: &str) -> bool
 }
 
 /// Whether a name is one of these.
-pub fn is_among(names: &[&str], name: &str) -> bool
-    ensures { result ≡ is_among (map (λ n. n.now) names.entry.now) name.now }
+pub fn has_name(names: &[&str], name: &str) -> bool
+    ensures { result ≡ has_name (map (λ n. n.now) names.entry.now) name.now }
 {
     for known in names {
         if name == *known {
@@ -179,7 +177,7 @@ fn are_among(names: &[&str], members: &Map<String, Value>) -> bool
     ensures { result ≡ are_among (map (λ n. n.now) names.entry.now) (members_view members.now.entries) }
 {
     for (key, _member) in members.iter() {
-        if !is_among(names, key.as_str()) {
+        if !has_name(names, key.as_str()) {
             return false;
         }
     }

@@ -28,9 +28,7 @@ fn equality(alloc: Global) -> Result<Items<Op>, Memory>
     ensures { IfOk result (λ os. os ≡ Op.Eq ∷ []) }
 {
     let mut operators = Items::new(alloc);
-    let Ok(()) = operators.push(Op::Eq) else {
-        return Err(Memory);
-    };
+    operators.push(Op::Eq)?;
     Ok(operators)
 }
 
@@ -80,9 +78,7 @@ fn keys_in(
         let Some(key) = key_of(alloc, columns, value)? else {
             return Ok(None);
         };
-        let Ok(()) = keys.push(key) else {
-            return Err(Memory);
-        };
+        keys.push(key)?;
     }
     Ok(Some(keys))
 }

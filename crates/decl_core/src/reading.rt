@@ -1,8 +1,9 @@
 ghost use Rattle.std.specs.Prelude.{◌≡◌, All, IfOk, map, reverse};
 ghost use Rattle.serde_json.specs.View.{view};
-ghost use Rattle.decl_core.specs.Faults.{IsUnlessMemory};
-ghost use Rattle.decl_words.specs.Order.{IsComplete};
+ghost use Rattle.sp_value.specs.Unless.{IsUnlessMemory};
+ghost use Rattle.decl_words.specs.Faults.{is_memory};
 ghost use Rattle.decl_words.specs.Reading.{limit_of, fault_of, with_plugin_rule, finished, read_declaration};
+ghost use Rattle.decl_words.specs.Sound.{IsSound};
 
 use crate::cycles::first_cycle;
 use crate::limits::{BeyondLimit, outside_fits};
@@ -60,9 +61,7 @@ fn reversed(alloc: Global, mut tables: Items<TableDecl>) -> Result<Items<TableDe
 {
     let mut reversed = Items::new(alloc);
     while let Some(table) = tables.pop() {
-        let Ok(()) = reversed.push(table) else {
-            return Err(Memory);
-        };
+        reversed.push(table)?;
     }
     Ok(reversed)
 }
@@ -85,9 +84,7 @@ fn with_plugin_rules(
     let mut left = reversed(alloc, tables)?;
     let mut done = Items::new(alloc);
     while let Some(table) = left.pop() {
-        let Ok(()) = done.push(with_plugin_rule(alloc, rule, table)?) else {
-            return Err(Memory);
-        };
+        done.push(with_plugin_rule(alloc, rule, table)?)?;
     }
     Ok(done)
 }
@@ -110,8 +107,8 @@ fn finished(alloc: Global, declaration: Declaration) -> Result<Declaration, Memo
 /// The declaration that a JSON value is, with defaults put in, or the first refusal: of the kinds in the
 /// order of `DeclFault`, and of one kind at the first table.
 pub fn read_declaration(alloc: Global, value: &Value) -> Result<Declaration, DeclFault>
-    ensures answer { IsUnlessMemory result (read_declaration (view value.now)) }
-    ensures complete { IfOk result (λ d. All IsComplete d.tables) }
+    ensures answer { IsUnlessMemory is_memory result (read_declaration (view value.now)) }
+    ensures sound { IfOk result (λ d. All IsSound d.tables) }
 {
     let draft = draft_of(alloc, value)?;
     match fault_of(alloc, &draft)? {

@@ -1,10 +1,11 @@
 ghost use Rattle.std.specs.Prelude.{◌≡◌, ◌<◌, ◌≤◌, ◌^◌, [], codes, IfOk, IfSome, option_and_then, suc};
 ghost use Rattle.serde_json.specs.Find.{get, as_str};
 ghost use Rattle.serde_json.specs.View.{view, items_view, members_view};
-ghost use Rattle.decl_words.specs.Members.{is_among, each, optional, optional_or};
+ghost use Rattle.sp_model.specs.Names.{has_name};
+ghost use Rattle.decl_words.specs.Members.{each, optional, optional_or};
 ghost use Rattle.decl_words.specs.Rules.{own_tags, tag_of, tags_in, tags_of, patterns_of, bounded, number_of, attempts_of, interval_of, cap_of, rule_in, call_rules_in};
 
-use crate::from_json::{FromJson, has_only, is_among, optional, required};
+use crate::from_json::{FromJson, has_only, has_name, optional, required};
 use decl_words::CallRules;
 use serde_json::{Map, Value};
 use sp_model::{Backoff, Pair, Patterns, Retry, Rule};
@@ -13,9 +14,9 @@ use sqlite_items::Items;
 use std::alloc::Global;
 
 fn is_own_tag(name: &str) -> bool
-    ensures { result ≡ is_among own_tags name.now }
+    ensures { result ≡ has_name own_tags name.now }
 {
-    is_among(&["plugin", "connection", "table", "function_name"], name)
+    has_name(&["plugin", "connection", "table", "function_name"], name)
 }
 
 fn tag_of(alloc: Global, name: &str, value: &Value) -> Result<Option<Pair>, Memory>
@@ -41,9 +42,7 @@ fn tags_in(alloc: Global, members: &Map<String, Value>) -> Result<Option<Items<P
         let Some(tag) = tag_of(alloc, key.as_str(), member)? else {
             return Ok(None);
         };
-        let Ok(()) = tags.push(tag) else {
-            return Err(Memory);
-        };
+        tags.push(tag)?;
     }
     Ok(Some(tags))
 }
@@ -70,9 +69,7 @@ fn texts_in(alloc: Global, values: &Vec<Value>) -> Result<Option<Patterns>, Memo
             return Ok(None);
         };
         let text = Text::from_str(alloc, text)?;
-        let Ok(()) = texts.push(text) else {
-            return Err(Memory);
-        };
+        texts.push(text)?;
     }
     Ok(Some(texts))
 }

@@ -1,9 +1,10 @@
 ghost use Rattle.std.specs.Prelude.{◌≡◌, ◌||◌, ℕ, List, IfOk};
 ghost use Rattle.std.specs.List.{list_any};
 ghost use Rattle.decl_words.specs.Columns.{hydrated};
-ghost use Rattle.decl_words.specs.Leftover.{names_of_functions};
-ghost use Rattle.decl_words.specs.Members.{is_among};
-ghost use Rattle.decl_words.specs.Refusals.{first_table, column_is_unknown, depends_on_unknown, is_subset, is_subset_key};
+ghost use Rattle.sp_model.specs.Hydration.{names_of_functions};
+ghost use Rattle.sp_model.specs.Names.{has_name};
+ghost use Rattle.sp_model.specs.SubsetKeys.{is_subset};
+ghost use Rattle.decl_words.specs.Refusals.{first_table, column_is_unknown, depends_on_unknown, is_subset_key};
 
 use crate::columns::KeyColumns;
 use crate::name_set::NameSet;
@@ -42,7 +43,7 @@ pub fn function_names<'a>(
     alloc: Global,
     functions: &'a [FunctionDecl],
 ) -> Result<NameSet<'a>, Memory>
-    ensures { IfOk result (λ s. (name : List ℕ) → is_among s name ≡ is_among (names_of_functions functions.now) name) }
+    ensures { IfOk result (λ s. (name : List ℕ) → has_name s name ≡ has_name (names_of_functions functions.now) name) }
 {
     let mut names = NameSet::new(alloc);
     for function in functions {

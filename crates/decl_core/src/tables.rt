@@ -1,6 +1,7 @@
 ghost use Rattle.std.specs.Prelude.{◌≡◌, IfOk};
 ghost use Rattle.serde_json.specs.View.{view, items_view};
-ghost use Rattle.decl_core.specs.Faults.{IsUnlessMemory};
+ghost use Rattle.sp_value.specs.Unless.{IsUnlessMemory};
+ghost use Rattle.decl_words.specs.Faults.{is_memory};
 ghost use Rattle.decl_words.specs.Tables.{accesses_in, table_with, table_of, tables_from, draft_of};
 
 use crate::columns::{KeyColumns, columns_at};
@@ -97,7 +98,7 @@ fn table_of(alloc: Global, value: &Value) -> Result<Option<TableDecl>, Memory>
 }
 
 fn tables_from(alloc: Global, values: &Vec<Value>) -> Result<Items<TableDecl>, DeclFault>
-    ensures { IsUnlessMemory result (tables_from 1 (items_view values.now.items)) }
+    ensures { IsUnlessMemory is_memory result (tables_from 1 (items_view values.now.items)) }
 {
     let mut tables = Items::new(alloc);
     let mut number = 0;
@@ -106,9 +107,7 @@ fn tables_from(alloc: Global, values: &Vec<Value>) -> Result<Items<TableDecl>, D
         let Some(table) = table_of(alloc, value)? else {
             return Err(DeclFault::Shape { table: number });
         };
-        let Ok(()) = tables.push(table) else {
-            return Err(DeclFault::Memory);
-        };
+        tables.push(table)?;
     }
     Ok(tables)
 }
@@ -116,7 +115,7 @@ fn tables_from(alloc: Global, values: &Vec<Value>) -> Result<Items<TableDecl>, D
 /// The declaration that a value is, as yet without a look at its names and limits, or the refusal of the
 /// first part that has another form.
 pub fn draft_of(alloc: Global, value: &Value) -> Result<Declaration, DeclFault>
-    ensures { IsUnlessMemory result (draft_of (view value.now)) }
+    ensures { IsUnlessMemory is_memory result (draft_of (view value.now)) }
 {
     if !has_only(value, &["tables", "ignore", "retry"]) {
         return Err(DeclFault::Shape { table: 0 });

@@ -1,8 +1,9 @@
 ghost use Rattle.std.specs.Prelude.{◌≡◌, [], false, filter, slice_get, IfOk, OnOk};
 ghost use Rattle.std.specs.List.{list_all, list_any};
 ghost use Rattle.std.specs.Option.{option_map_or};
-ghost use Rattle.decl_words.specs.Leftover.{names_of_functions, leftover};
-ghost use Rattle.decl_words.specs.Members.{is_among};
+ghost use Rattle.sp_model.specs.Hydration.{names_of_functions};
+ghost use Rattle.decl_words.specs.Leftover.{leftover};
+ghost use Rattle.sp_model.specs.Names.{has_name};
 ghost use Rattle.decl_words.specs.Refusals.{repeats, depends_on_unknown};
 ghost use Rattle.decl_core.specs.Taking.{stays, can_be_taken, with_taken, after_turns, takes_one, at_places};
 
@@ -14,7 +15,7 @@ use sqlite_items::Items;
 use std::alloc::Global;
 
 fn is_ready(taken: &NameSet, function: &FunctionDecl) -> bool
-    ensures { result ≡ list_all (is_among taken.now) function.now.depends }
+    ensures { result ≡ list_all (has_name taken.now) function.now.depends }
 {
     for dependency in function.depends.as_slice() {
         if !taken.contains(dependency.as_str()) {
@@ -117,9 +118,7 @@ fn enter<'a>(
         return Ok(());
     };
     if seen.insert(function.name.as_str())? {
-        let Ok(()) = open.push(Entered { place, next: 0 }) else {
-            return Err(Memory);
-        };
+        open.push(Entered { place, next: 0 })?;
     }
     Ok(())
 }
@@ -142,18 +141,14 @@ fn visit<'a>(
         };
         match next_unseen(functions, places, seen, last) {
             Some(found) => {
-                let Ok(()) = open.push(Entered {
+                open.push(Entered {
                     place: last.place,
                     next: found.next,
-                }) else {
-                    return Err(Memory);
-                };
+                })?;
                 enter(functions, seen, &mut open, found.place)?;
             }
             None => {
-                let Ok(()) = order.push(last.place) else {
-                    return Err(Memory);
-                };
+                order.push(last.place)?;
             }
         }
     }
@@ -199,9 +194,7 @@ fn names_that_stay(
     while let [first, rest @ ..] = functions {
         if !taken.contains(first.name.as_str()) {
             let name = first.name.copy(alloc)?;
-            let Ok(()) = names.push(name) else {
-                return Err(Memory);
-            };
+            names.push(name)?;
         }
         functions = rest;
     }

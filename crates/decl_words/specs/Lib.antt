@@ -1,3 +1,4 @@
+pub mod Faults
 pub mod Members
 pub mod Words
 pub mod Rules
@@ -10,3 +11,4 @@ pub mod Limits
 pub mod Reading
 pub mod Order
 pub mod BookTables
+pub mod Sound

@@ -29,7 +29,8 @@ use Rattle.sp_model.specs.declared.scan.Access.{Access}
 use Rattle.sp_model.specs.declared.scan.Access.TheVariants.{Get, List as OfList, Parents}
 use Rattle.sp_model.specs.declared.scan.ScanRequest.{ScanRequest}
 use Rattle.model_laws.proofs.FewerColumns.{row_fewer, cell_is_field, name_in_more, cell_in, names_in}
-use Rattle.model_laws.proofs.Filtering.{filter_all, hold_of}
+use Rattle.model_laws.proofs.Filtering.{filter_all}
+use Rattle.model_laws.specs.FilteringBooks.{hold_of}
 use Rattle.model_laws.proofs.Growing.{Grows, row_grows, walk_grows}
 use Rattle.model_laws.proofs.Merging.{left, right, Scalars, all_of_among, all_split, all_filter}
 use Rattle.model_laws.proofs.Simulating.{Plain, Same, GoesSo, EndsSo, Follows, walk_follows, row_follows, row_past, cut_none}

@@ -18,6 +18,7 @@ use Rattle.sp_model.specs.declared.declaration.ColumnDecl.{ColumnDecl}
 use Rattle.sp_model.specs.declared.declaration.KeyDecl.{KeyDecl}
 use Rattle.sp_model.specs.declared.declaration.ListDecl.{ListDecl}
 use Rattle.sp_model.specs.declared.declaration.TableDecl.{TableDecl}
+use Rattle.model_laws.specs.FilteringBooks.{hold_of}
 use Rattle.model_laws.proofs.FewerColumns.{bytes_same}
 use Rattle.model_laws.proofs.Merging.{left, right, is_scalar_condition, Scalars, Canonical, all_put, put_canonical, put_all}
 
@@ -29,7 +30,7 @@ filter_by : {X : Type 0} (p : X → Bool) (x : X) (ys zs : List X) (b : Bool) �
 filter_by p x ys zs true h = elim (p x) as (λ c. cond c (x ∷ filter p ys) (filter p ys) ≡ cond (c && true) (x ∷ zs) zs) [ true ↦ ap (λ l. x ∷ l) h | false ↦ h ]
 filter_by p x ys zs false h = elim (p x) as (λ c. filter p ys ≡ cond (c && false) (x ∷ zs) zs) [ true ↦ h | false ↦ h ]
 
-filter_filter : {X : Type 0} (p q : X → Bool) (xs : List X) → filter p (filter q xs) ≡ filter (λ x. p x && q x) xs
+pub filter_filter : {X : Type 0} (p q : X → Bool) (xs : List X) → filter p (filter q xs) ≡ filter (λ x. p x && q x) xs
 filter_filter p q [] = refl
 filter_filter p q (x ∷ xs) = filter_by p x (filter q xs) (filter (λ y. p y && q y) xs) (q x) (filter_filter p q xs)
 
@@ -129,10 +130,6 @@ met_put_all keys [] ks h = h
 met_put_all keys (f ∷ fs) ks h = met_put keys f (put_all fs ks) (met_put_all keys fs ks h)
 
 -- ---- replies with further conditions
-
--- all of these conditions are true of the fields of an item
-abbrev pub hold_of : List ColumnDecl → List Condition → Cell → Bool
-hold_of columns conditions item = list_all (λ condition. holds_of columns condition item) conditions
 
 abbrev filtered : List ColumnDecl → List Condition → Reply → Reply
 filtered columns fs r = record { items = filter (hold_of columns fs) r.items; ending = r.ending }

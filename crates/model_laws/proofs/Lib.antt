@@ -1,6 +1,7 @@
 pub mod Covering
 pub mod FewerColumns
 pub mod Filtering
+pub mod FilteringBooks
 pub mod Growing
 pub mod LawfulCalls
 pub mod Merging

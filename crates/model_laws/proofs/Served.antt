@@ -29,7 +29,8 @@ use Rattle.sp_model.specs.declared.scan.ScanRequest.{ScanRequest}
 use Rattle.model_laws.specs.Covered.{is_asked_of, only_filters, is_asked_of_list, OnlyFilters, CoveredScanGivesTheRows}
 use Rattle.model_laws.proofs.Covering.{fits_access, Asked, Covering, covering_value, is_field}
 use Rattle.model_laws.proofs.FewerColumns.{bytes_same}
-use Rattle.model_laws.proofs.Filtering.{filter_all, hold_of, all_from, name_all, sent_on_subset, only_subset, reply_filtered}
+use Rattle.model_laws.proofs.Filtering.{filter_all, all_from, name_all, sent_on_subset, only_subset, reply_filtered}
+use Rattle.model_laws.specs.FilteringBooks.{hold_of}
 use Rattle.model_laws.proofs.Merging.{left, right, Canonical, all_scalar, all_filter, rest_none, merge, put_all, is_scalar_condition}
 use Rattle.model_laws.proofs.Simulating.{Plain}
 

@@ -1,5 +1,5 @@
 -- A kept scan that covers a request has the rows of the request's own scan.
-use Rattle.std.specs.Prelude.{◌≡◌, ℕ, Bool, true, false, ◌&&◌, ◌||◌, not, nat_le, List, [], ◌∷◌, map, Option, Some, None, is_none, bytes_eq}
+use Rattle.std.specs.Prelude.{◌≡◌, ℕ, Bool, true, false, ◌&&◌, ◌||◌, not, List, Option, Some, None, is_none, bytes_eq}
 use Rattle.std.specs.List.{list_all}
 use Rattle.sp_value.specs.declared.cell.Cell.{Cell}
 use Rattle.sp_model.specs.Book.{Book}
@@ -14,7 +14,6 @@ use Rattle.sp_model.specs.Settling.{answers_of}
 use Rattle.sp_model.specs.SubsetKeys.{is_subset, SubsetKeysOnlyFilter}
 use Rattle.sp_model.specs.Walk.{scan_walk, scan_value, is_complete, is_steady}
 use Rattle.sp_model.specs.declared.call.Version.TheVariants.{Is}
-use Rattle.sp_model.specs.declared.declaration.ColumnDecl.{ColumnDecl}
 use Rattle.sp_model.specs.declared.declaration.ListDecl.{ListDecl}
 use Rattle.sp_model.specs.declared.declaration.TableDecl.{TableDecl}
 use Rattle.sp_model.specs.declared.outcome.ScanValue.TheVariants.{Rows}

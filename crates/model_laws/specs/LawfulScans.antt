@@ -1,5 +1,5 @@
 -- A lawful scan makes lawful calls alone.
-use Rattle.std.specs.Prelude.{◌≡◌, ℕ, Bool, true, false, ◌&&◌, nat_le, List, ◌∷◌, ◌++◌, map, Option, Some, None, is_none}
+use Rattle.std.specs.Prelude.{◌≡◌, ℕ, Bool, true, false, ◌&&◌, nat_le, List, ◌∷◌, ◌++◌, Option, Some, None, is_none}
 use Rattle.std.specs.List.{list_all}
 use Rattle.sp_model.specs.Calls.{fit_keys, is_lawful, used, reach}
 use Rattle.sp_model.specs.Hydration.{names_of_functions}
@@ -9,7 +9,6 @@ use Rattle.sp_model.specs.Settling.{Answers, rule_of, attempts_of}
 use Rattle.sp_model.specs.declared.call.Call.{Call}
 use Rattle.sp_model.specs.declared.call.Condition.{Condition}
 use Rattle.sp_model.specs.declared.declaration.AccessDecl.{AccessDecl}
-use Rattle.sp_model.specs.declared.declaration.FunctionDecl.{FunctionDecl}
 use Rattle.sp_model.specs.declared.declaration.GetDecl.{GetDecl}
 use Rattle.sp_model.specs.declared.declaration.ListDecl.{ListDecl}
 use Rattle.sp_model.specs.declared.declaration.Retry.{Retry}

@@ -1,4 +1,5 @@
 pub mod Covered
+pub mod FilteringBooks
 pub mod LawfulScans
 pub mod UnitsAndNotes
 pub mod WholeBook

@@ -1,5 +1,5 @@
 -- On a whole book nothing waits.
-use Rattle.std.specs.Prelude.{◌≡◌, ℕ, zero, suc, Bool, true, false, List, length, Option, Some, None, is_some}
+use Rattle.std.specs.Prelude.{◌≡◌, ℕ, true, List, is_some}
 use Rattle.std.specs.List.{list_all}
 use Rattle.sp_value.specs.declared.cell.Cell.{Cell}
 use Rattle.sp_model.specs.Book.{Book}
@@ -9,8 +9,6 @@ use Rattle.sp_model.specs.RowOf.{columns_named}
 use Rattle.sp_model.specs.Settling.{answers_of}
 use Rattle.sp_model.specs.Walk.{scan_value}
 use Rattle.sp_model.specs.declared.call.Version as version
-use Rattle.sp_model.specs.declared.declaration.ColumnDecl.{ColumnDecl}
-use Rattle.sp_model.specs.declared.declaration.FunctionDecl.{FunctionDecl}
 use Rattle.sp_model.specs.declared.declaration.TableDecl.{TableDecl}
 use Rattle.sp_model.specs.declared.scan.ScanRequest.{ScanRequest}
 

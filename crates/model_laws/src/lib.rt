@@ -2,6 +2,7 @@
 #![tactic(auto)]
 
 ghost use Rattle.model_laws.specs.Covered.{CoveredScanGivesTheRows};
+ghost use Rattle.model_laws.specs.FilteringBooks.{FilteringBookKeepsSubsetKeys};
 ghost use Rattle.model_laws.specs.LawfulScans.{LawfulScanMakesLawfulCalls};
 ghost use Rattle.model_laws.specs.UnitsAndNotes.{UnitsAreScansOfTheirConnections, NotesAreFreshWithoutCache};
 ghost use Rattle.model_laws.specs.WholeBook.{WholeBookHydrates, WholeBookHasValues};
@@ -9,6 +10,11 @@ ghost use Rattle.model_laws.specs.WholeBook.{WholeBookHydrates, WholeBookHasValu
 /// Where subset keys only filter, a kept scan that covers a request has the rows of the request's own scan at the same version.
 pub fn covered_scan_gives_the_rows()
     ensures { CoveredScanGivesTheRows }
+{}
+
+/// A book that answers list calls by leaving out the items for which a condition isn't true keeps what subset keys promise.
+pub fn filtering_book_keeps_subset_keys()
+    ensures { FilteringBookKeepsSubsetKeys }
 {}
 
 /// On a whole book each function whose dependencies are declared and never come back to it gives an outcome.

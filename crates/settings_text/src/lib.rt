@@ -1,4 +1,8 @@
 //! Settings files: the connections, limiters and options of a run, written in TOML.
+//!
+//! `read_settings` takes a file's bytes and gives `Settings` of `sp_model` with defaults put in, or the first refusal in a fixed order
+//! (`SettingsFault`). docs/SETTINGS.md describes the format. The order of refusals stands in `specs/Reading.antt`; begin there, and then at
+//! `reading.rt`.
 #![tactic(auto)]
 
 mod aggregators;

@@ -1,4 +1,8 @@
 //! A statement's names and kinds, bound to the tables that connections declare.
+//!
+//! `connections_of` says whose declarations a statement needs, a `Catalog` keeps them, and `bind` gives the statement with columns in place
+//! of names (`Bound`), or the first refusal with its place, in bytes (`BindFault`). The order of refusals stands in `specs/Answer.antt`,
+//! and each refusal in `specs/Refusals.antt`.
 #![tactic(auto)]
 
 mod binding;

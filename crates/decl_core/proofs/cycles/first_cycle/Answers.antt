@@ -2,10 +2,10 @@
 use Rattle.std.proofs.Common.{[], sym, ap, subst, ◌∙◌}
 use Rattle.std.specs.List.{list_any}
 use Rattle.sp_model.specs.declared.declaration.TableDecl.{TableDecl}
-use Rattle.decl_words.specs.Leftover.{names_of_functions}
+use Rattle.sp_model.specs.Hydration.{names_of_functions}
 use Rattle.decl_words.specs.Refusals.{repeats, depends_on_unknown, has_unknown}
-use Rattle.decl_core.proofs.Leftovers.{In}
-use Rattle.decl_core.proofs.TablesPass.{get_or-In, functions-distinct, none-refused, dependencies-declared}
+use Rattle.decl_words.proofs.Lists.{In}
+use Rattle.decl_words.proofs.TablesPass.{get_or-In, functions-distinct, none-refused, dependencies-declared}
 use Rattle.decl_core.proofs.cycles.first_cycle.Goals as goal
 
 pub leftover-requires-clause-distinct : goal.leftover-requires-clause-distinct

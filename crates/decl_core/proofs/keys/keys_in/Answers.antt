@@ -17,4 +17,4 @@ loop-value-preserved c =
     c.loop-value.invariant
     ∙ ap (option_map (λ rest. c.loop-value.keys ++ rest)) (at_drop_more left values i c.value-item.result c.loop-value-test.true ∙ ap (λ v. left (v ∷ drop (i + 1) values)) (sym c.value-item.is))
     ∙ one_more c.loop-value.keys c.in-Some.key (key_of c.args.columns.now (view c.value-item.result)) (left (drop (i + 1) values)) (sym c.in_ok-key.ensures ∙ c.in-Some.is)
-    ∙ ap (λ ks. option_map (λ rest. ks ++ rest) (left (drop (i + 1) values))) (sym c.in-Ok.ensures.ok)
+    ∙ ap (λ ks. option_map (λ rest. ks ++ rest) (left (drop (i + 1) values))) (sym c.in_ok-push.ensures.ok)

@@ -16,4 +16,4 @@ loop-key-preserved c =
     c.loop-key.invariant
     ∙ ap (λ entries. option_map (λ more. c.loop-key.tags ++ more) (left entries)) c.in-Some.ensures.steps
     ∙ one_more c.loop-key.tags c.in-Some-2.tag (tag_of (string_bytes c.in-Some.key.now) (view c.in-Some.member.now)) (left rest) read
-    ∙ ap (λ ts. option_map (λ more. ts ++ more) (left rest)) (sym c.in-Ok.ensures.ok)
+    ∙ ap (λ ts. option_map (λ more. ts ++ more) (left rest)) (sym c.in_ok-push.ensures.ok)

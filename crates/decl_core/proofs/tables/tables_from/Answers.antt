@@ -21,6 +21,6 @@ loop-value-preserved c =
       c.loop-value.invariant.1
           ∙ ap (after_tables c.loop-value.tables) (at_drop_more (left (i + 1)) values i c.value-item.result c.loop-value-test.true ∙ ap (λ v. left (i + 1) (v ∷ rest)) (sym c.value-item.is))
           ∙ after_one c.loop-value.tables (i + 1) table (table_of (view c.value-item.result)) (left (suc (i + 1)) rest) (sym c.in_ok-table.ensures ∙ c.in-Some.is)
-          ∙ ap (λ ts. after_tables ts (left (suc (i + 1)) rest)) (sym c.in-Ok.ensures.ok)
+          ∙ ap (λ ts. after_tables ts (left (suc (i + 1)) rest)) (sym c.in_ok-push.ensures.ok)
           ∙ ap (λ n. after_tables c.push.new.self (left n rest)) next,
     )

@@ -1,6 +1,6 @@
 -- The names so far, followed by those of the functions that are left, are all.
 use Rattle.std.proofs.Common.{◌≡◌, ◌++◌, filter, length}
-use Rattle.decl_words.specs.Leftover.{names_of_functions}
+use Rattle.sp_model.specs.Hydration.{names_of_functions}
 use Rattle.decl_core.specs.Taking.{stays}
 use Rattle.decl_core.proofs.taking.names_that_stay.Given as goal
 
