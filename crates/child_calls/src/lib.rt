@@ -7,8 +7,6 @@ mod kid;
 mod rows;
 mod stage;
 
-pub use asking::AskEnd;
-pub use fetching::{ask_declaration, ask_version, fetch_reply};
 pub use kid::Kid;
-pub use rows::{columns_named, plain_row, plain_rows};
+pub use rows::{plain_row, plain_rows};
 pub use stage::{CallEnd, Stage};
