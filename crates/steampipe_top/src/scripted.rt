@@ -2,7 +2,7 @@ ghost use Rattle.std.specs.Prelude.{◌≡◌, ◌≤◌, [], IfOk, vec_len, vec
 
 use sp_model::Connection;
 use sp_outside::{Child, ChildEnd, Failed, Nursery};
-use sp_value::Memory;
+use sp_value::{Memory, Text, TryCopy};
 use sp_world::Untold;
 use std::alloc::Global;
 
@@ -17,6 +17,7 @@ pub(crate) struct Script {
 #[derive(Drop)]
 pub(crate) struct ScriptedChild {
     alloc: Global,
+    connection: Text,
     script: &'static [&'static [u8]],
     next: usize,
     pub(crate) heard: Vec<Vec<u8>>,
@@ -38,6 +39,8 @@ fn copy(alloc: Global, line: &[u8]) -> Result<Vec<u8>, Memory>
 
 impl Child<Untold> for ScriptedChild {
     ghost use Rattle.std.specs.Prelude.{[]};
+
+    ghost connection = { λ c. c.connection };
 
     ghost log = { λ _. [] };
 
@@ -147,9 +150,11 @@ impl Nursery<Untold> for ScriptedNursery {
         let Ok(()) = self.back.reserve(self.made + 1 - self.back.len()) else {
             return Err(Memory);
         };
+        let name = connection.name.copy(alloc)?;
         self.made += 1;
         Ok(ScriptedChild {
             alloc,
+            connection: name,
             script: lines_of(self.scripts, connection.name.as_str()),
             next: 0,
             heard: Vec::new(alloc),
