@@ -18,8 +18,6 @@ mod routes;
 mod served;
 mod serving;
 mod stop;
-#[cfg(test)]
-mod tests;
 mod waiting;
 
 pub use routes::Routes;

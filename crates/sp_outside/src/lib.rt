@@ -11,8 +11,6 @@ mod book_log;
 mod book_nursery;
 mod child;
 mod child_script;
-#[cfg(test)]
-mod child_tests;
 mod clock;
 mod failing;
 mod log;
@@ -24,8 +22,6 @@ mod nursery;
 mod shelf;
 mod sink;
 mod source;
-#[cfg(test)]
-mod tests;
 
 pub use book_child::BookChild;
 pub use book_nursery::BookNursery;
