@@ -15,8 +15,6 @@ mod judging;
 mod laws;
 mod needed;
 mod sources;
-#[cfg(test)]
-mod tests;
 mod walking;
 
 pub use binding::bind;
