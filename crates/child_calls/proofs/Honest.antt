@@ -1,6 +1,5 @@
 -- What an honest child gives answers its open call.
 use Rattle.std.proofs.Common.{◌≡◌, ℕ, ◌<◌, List, [], ◌∷◌, Bool, true, false, cond, Some, None, Result, Ok, Err, refl, sym, ap, ◌∙◌, arith, nat_eq, eq-eqb, subst, inl, inr}
-use Rattle.std.specs.Prelude.{IsErrAnd}
 use Rattle.std.proofs.lemmas.Bool.{lt-ltb}
 use Rattle.std.proofs.lemmas.Option.{slice_get_cases}
 use Rattle.sp_model.specs.Book.{Book}
@@ -17,9 +16,9 @@ use Rattle.sp_world.specs.ReplyLines.{ReplyLine}
 use Rattle.sp_world.specs.Told as told
 use Rattle.sp_outside.specs.Log.{find_open, next_line, IsNextLine}
 use Rattle.sp_outside.specs.declared.log.OpenCall.{OpenCall}
-use Rattle.child_calls.specs.Asking.{answer_of, told_of, told_under, number_of, IsHonest, IsMisfit, is_fault, IfLost}
-use Rattle.child_calls.specs.declared.asking.AskEnd.{AskEnd}
-use Rattle.child_calls.specs.declared.asking.AskEnd.TheVariants as end
+use Rattle.child_calls.specs.Asking.{answer_of, told_of, told_under, number_of, IsHonest, IfLost}
+use Rattle.child_calls.specs.declared.stage.CallEnd.{CallEnd}
+use Rattle.child_calls.specs.declared.stage.CallEnd.TheVariants as end
 
 one_of : (b : Bool) (call other : OpenCall) → cond b (Some call) None ≡ Some other → call ≡ other
 one_of true call other h = cc
@@ -68,10 +67,8 @@ honest book sayable call bytes next h =
     (sym (ap (told_of call.id call.asked call.taken) (next.reads ∙ ap (λ o. Ok (next_line book o)) (sym same))) ∙ h)
 
 -- so that no line of it loses the child
-pub no_loss : {S T : Type 0} (book : Book) → IsHonest book → (call : OpenCall) (bytes : List ℕ) → IsNextLine book (call ∷ []) bytes
-    → (q : Result S AskEnd) → IfLost q (IsMisfit bytes call) → (e : AskEnd) → q ≡ Err e → (r : Result T AskEnd) → IsErrAnd r (λ f. f ≡ e) → IfLost r (λ m. is_fault m ≡ true)
-no_loss book sayable call bytes next q h e same (Ok v) is = tt
-no_loss book sayable call bytes next q h e same (Err end.Memory) is = tt
-no_loss book sayable call bytes next q h e same (Err (end.Lost l)) is =
-    let misfit : IsMisfit bytes call l = subst (λ p. IfLost p (IsMisfit bytes call)) (same ∙ ap Err (sym is)) h in
-    absurd (honest book sayable call bytes next misfit.none)
+pub no_loss : {T : Type 0} (book : Book) → IsHonest book → (call : OpenCall) (bytes : List ℕ) → IsNextLine book (call ∷ []) bytes
+    → (r : Result T CallEnd) (P : Type 0) → IfLost r (answer_of call.id call.asked call.taken bytes ≡ None) → IfLost r P
+no_loss book sayable call bytes next (Ok v) P none = tt
+no_loss book sayable call bytes next (Err end.Memory) P none = tt
+no_loss book sayable call bytes next (Err end.Lost) P none = absurd (honest book sayable call bytes next none)

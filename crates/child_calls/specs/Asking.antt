@@ -1,5 +1,5 @@
 -- One call at a time.
-use Rattle.std.specs.Prelude.{◌≡◌, ℕ, ◌<◌, ◌^◌, ◌==◌, Bool, true, false, ◌&&◌, nat_le, bytes_eq, is_none, List, [], ◌∷◌, Option, Some, None, Result, Ok, Err, slice_get, if◌then◌else◌}
+use Rattle.std.specs.Prelude.{◌≡◌, ℕ, ◌<◌, ◌^◌, ◌==◌, List, [], ◌∷◌, Option, Some, None, Result, Ok, Err, slice_get, if◌then◌else◌}
 use Rattle.serde_json.specs.View.{view}
 use Rattle.sp_model.specs.Book.{Book}
 use Rattle.sp_model.specs.Sayable.{KeepsForms}
@@ -17,24 +17,16 @@ use Rattle.sp_world.specs.Fits.{told_by, is_last}
 use Rattle.sp_world.specs.ReplyLines.{ReplyLine, line_of}
 use Rattle.sp_world.specs.ReplyLines as line
 use Rattle.sp_world.specs.declared.line.LineFault.{LineFault}
-use Rattle.sp_world.specs.declared.line.Request.{Request}
-use Rattle.sp_world.specs.declared.line.Request.TheVariants.{Ask}
 use Rattle.sp_outside.specs.Log.{one_more}
-use Rattle.sp_outside.specs.declared.log.Loss.{Loss}
-use Rattle.sp_outside.specs.declared.log.Loss.TheVariants as loss
 use Rattle.sp_outside.specs.declared.log.OpenCall.{OpenCall}
-use Rattle.child_calls.specs.declared.asking.AskEnd.{AskEnd}
-use Rattle.child_calls.specs.declared.asking.AskEnd.TheVariants as end
 use Rattle.child_calls.specs.declared.asking.Answered.{Answered}
 use Rattle.child_calls.specs.declared.asking.Answered.TheVariants as answered
+use Rattle.child_calls.specs.declared.stage.CallEnd.{CallEnd}
+use Rattle.child_calls.specs.declared.stage.CallEnd.TheVariants as end
 
 -- what was asked, open under a number, after n items
 abbrev pub open_at : ℕ → Asked → ℕ → OpenCall
 open_at id what n = record { id = id; asked = what; taken = n }
-
--- the call that a request opens
-abbrev pub call_of : Request → OpenCall
-call_of (Ask id what function) = open_at id what 0
 
 abbrev pub number_of : ReplyLine → ℕ
 number_of (line.Item id item) = id
@@ -74,28 +66,9 @@ IsAnswerTo _ _ _ = ⊥
 abbrev pub left_open : OpenCall → Answer → List OpenCall
 left_open call answer = if is_last answer then [] else one_more call ∷ []
 
--- the line tells nothing of the one open call
-abbrev pub fits_none : List ℕ → List OpenCall → Bool
-fits_none line (call ∷ []) = is_none (answer_of call.id call.asked call.taken line)
-fits_none line _ = false
-
--- a loss is by this line, which tells nothing of the one open call
-pub record IsMisfit (line : List ℕ) (call : OpenCall) (l : Loss) : Type 0 where
-  pub same : l ≡ loss.Bad line (call ∷ [])
-  pub none : answer_of call.id call.asked call.taken line ≡ None
-
--- why a child was lost: a fault was counted; or it gave a line, its last, that tells nothing of the open call
-abbrev pub has_cause : Loss → ℕ → ℕ → List ℕ → Bool
-has_cause loss.Fault faulted gives last = nat_le 1 faulted
-has_cause (loss.Bad line pending) faulted gives last = nat_le 1 gives && bytes_eq last line && fits_none line pending
-
-abbrev pub is_fault : Loss → Bool
-is_fault loss.Fault = true
-is_fault (loss.Bad line pending) = false
-
--- the end is a loss, of this property
-abbrev pub IfLost : {T : Type 0} → Result T AskEnd → (Loss → Type 0) → Type 0
-IfLost (Err (end.Lost l)) P = P l
+-- what holds where the end is the child's loss
+abbrev pub IfLost : {T : Type 0} → Result T CallEnd → Type 0 → Type 0
+IfLost (Err end.Lost) P = P
 IfLost _ P = Unit {0}
 
 -- a version that a call may name

@@ -1,24 +1,21 @@
--- A child, and how far it is.
-use Rattle.std.specs.Prelude.{ℕ, Bool, true, false, List}
-use Rattle.child_calls.specs.Asking.{has_cause, is_fault}
+-- How far a child is.
+use Rattle.std.specs.Prelude.{Bool, true, false}
+use Rattle.child_calls.specs.declared.stage.CallEnd.{CallEnd}
+use Rattle.child_calls.specs.declared.stage.CallEnd.TheVariants as call
 use Rattle.child_calls.specs.declared.stage.Stage.{Stage}
 use Rattle.child_calls.specs.declared.stage.Stage.TheVariants.{Unstarted, Running, Lost}
 
 abbrev pub is_running : Stage → Bool
 is_running Unstarted = false
 is_running Running = true
-is_running (Lost l) = false
+is_running Lost = false
 
 abbrev pub is_lost : Stage → Bool
 is_lost Unstarted = false
 is_lost Running = false
-is_lost (Lost l) = true
+is_lost Lost = true
 
-abbrev pub is_caused : Stage → ℕ → ℕ → List ℕ → Bool
-is_caused (Lost l) faulted gives last = has_cause l faulted gives last
-is_caused _ faulted gives last = true
-
--- it was not lost, or by a fault
-abbrev pub is_by_fault : Stage → Bool
-is_by_fault (Lost l) = is_fault l
-is_by_fault _ = true
+-- after a call without an answer: a call may be open where memory was wanting
+abbrev pub stage_after : CallEnd → Stage
+stage_after call.Lost = Lost
+stage_after call.Memory = Unstarted

@@ -1,4 +1,3 @@
 pub mod Asking
 pub mod Kids
-pub mod Stages
 pub mod PlainScan

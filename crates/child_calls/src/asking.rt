@@ -1,40 +1,23 @@
-ghost use Rattle.std.specs.Prelude.{◌≡◌, [], ◌∷◌, Some, true, IsTrue, IfOk, IfSome, OnOk, Ok, option_map};
+ghost use Rattle.std.specs.Prelude.{◌≡◌, ◌≤◌, ◌+◌, [], ◌∷◌, Some, None, IsTrue, IfOk, IfSome, OnOk, Ok, Err, option_map, Option, List, ℕ};
 ghost use Rattle.sp_world.specs.Fits.{told_by, book_answer};
 ghost use Rattle.sp_world.specs.ReplyLines.{IsLineForm, seen};
 ghost use Rattle.sp_model.specs.declared.call.Asked.TheVariants as asked;
-ghost use Rattle.sp_world.specs.RequestLines.{IsRequestForm};
-ghost use Rattle.sp_outside.specs.Log.{pending, opened};
-ghost use Rattle.child_calls.specs.Asking.{answer_of, number_of, shown, IsAnswerTo, left_open, has_cause, is_fault, IsHonest, IsMisfit, IfLost};
+ghost use Rattle.sp_world.specs.RequestLines.{request_of, IsRequestForm};
+ghost use Rattle.sp_world.specs.declared.line.Request.TheVariants as request;
+ghost use Rattle.sp_outside.specs.Log.{pending};
+ghost use Rattle.child_calls.specs.Asking.{answer_of, number_of, shown, IsAnswerTo, left_open, IsHonest, IfLost};
 
-use plugin_lines::read_line;
+use crate::stage::CallEnd;
 use serde_json::Value;
 use sp_model::{Asked, CallKey, Ending, Piece, Version};
-use sp_outside::{Child, ChildEnd, Loss, OpenCall};
-use sp_value::{Memory, Text, TryCopy};
-use sp_world::{Line, LineFault, Request, World, request_line};
-use sqlite_items::Items;
+use sp_outside::{Child, ChildEnd, OpenCall};
+use sp_value::{Memory, Text};
+use sp_world::{Line, LineFault, World, line_parts, read_line};
 use std::alloc::Global;
-
-/// Why what was asked has no answer: the child was lost, or memory is wanting.
-#[derive(Drop)]
-pub enum AskEnd {
-    Lost(Loss),
-    Memory,
-}
-
-impl From<Memory> for AskEnd {
-    ghost use Rattle.child_calls.specs.declared.asking.AskEnd.TheVariants as end;
-
-    ghost from_gives = { λ _ e. e ≡ end.Memory };
-
-    fn from(_: Memory) -> AskEnd {
-        AskEnd::Memory
-    }
-}
 
 /// What a line answers to what was asked.
 #[derive(Drop)]
-pub enum Answered {
+pub(crate) enum Answered {
     Piece(Piece),
     Version(Version),
     Declaration(Value),
@@ -123,32 +106,16 @@ fn answer_of(alloc: Global, call: &OpenCall, line: &[u8]) -> Result<Option<Answe
     }
 }
 
-/// The loss by a line that answers nothing to the open call.
-fn bad_line(alloc: Global, call: &OpenCall, line: Vec<u8>) -> Result<Loss, Memory>
-    ensures { IfOk result (λ l. l ≡ Loss.Bad line.items (call.now ∷ [])) }
-{
-    let mut pending = Items::new(alloc);
-    let Ok(()) = pending.push(call.copy(alloc)?) else {
-        return Err(Memory);
-    };
-    Ok(Loss::Bad {
-        line: Items::from_vec(line),
-        pending,
-    })
-}
-
 /// What a line answers to the open call; a line that answers nothing loses the child.
-fn judge(alloc: Global, call: &OpenCall, line: Vec<u8>) -> Result<Answered, AskEnd>
-    ensures told { IfOk result (λ a. Some (shown a) ≡ answer_of call.now.id call.now.asked call.now.taken line.items) }
+fn judge(alloc: Global, call: &OpenCall, line: &[u8]) -> Result<Answered, CallEnd>
+    ensures told { IfOk result (λ a. Some (shown a) ≡ answer_of call.now.id call.now.asked call.now.taken line.now) }
     ensures kind { IfOk result (IsAnswerTo call.now.asked call.now.taken) }
-    ensures lost { IfLost result (IsMisfit line.items call.now) }
+    ensures none { IfLost result (answer_of call.now.id call.now.asked call.now.taken line.now ≡ None) }
 {
-    match answer_of(alloc, call, &line)? {
-        Some(answer) => Ok(answer),
-        None => {
-            let loss = bad_line(alloc, call, line)?;
-            Err(AskEnd::Lost(loss))
-        }
+    match answer_of(alloc, call, line) {
+        Ok(Some(answer)) => Ok(answer),
+        Ok(None) => Err(CallEnd::Lost),
+        Err(_) => Err(CallEnd::Memory),
     }
 }
 
@@ -157,38 +124,50 @@ pub(crate) fn receive_answer<W: World, C: Child<W>>(
     alloc: Global,
     child: &mut C,
     call: &OpenCall,
-) -> Result<Answered, AskEnd>
+) -> Result<Answered, CallEnd>
     requires { IsTrue W.tells → pending (C.log child.old) ≡ call.now ∷ [] }
     ensures told { IsTrue W.tells → IfOk result (λ a. shown a ≡ book_answer W.book call.now.asked call.now.taken) }
     ensures left { IsTrue W.tells → IfOk result (λ a. pending (C.log child.new) ≡ left_open call.now (shown a)) }
     ensures kind { IfOk result (IsAnswerTo call.now.asked call.now.taken) }
-    ensures lost { IfLost result (λ loss. has_cause loss (C.faulted child.new) (C.gives child.new) (C.last child.new) ≡ true) }
-    ensures honest { IsTrue W.tells → IsHonest W.book → IfLost result (λ loss. is_fault loss ≡ true) }
+    ensures own { C.connection child.new ≡ C.connection child.old }
+    ensures lost { IfLost result (1 ≤ C.faulted child.new + C.gives child.new) }
+    ensures honest { IsTrue W.tells → IsHonest W.book → IfLost result (1 ≤ C.faulted child.new) }
 {
-    let line = match child.receive(alloc) {
-        Ok(line) => line,
-        Err(ChildEnd::Failed) => return Err(AskEnd::Lost(Loss::Fault)),
-        Err(ChildEnd::Memory) => return Err(AskEnd::Memory),
-    };
-    let answer = judge(alloc, call, line)?;
-    Ok(answer)
+    match child.receive(alloc) {
+        Ok(line) => judge(alloc, call, &line),
+        Err(ChildEnd::Failed) => Err(CallEnd::Lost),
+        Err(ChildEnd::Memory) => Err(CallEnd::Memory),
+    }
 }
 
-/// Sends a request, which opens a call.
+/// The request line of a call.
+fn line_of(alloc: Global, call: &OpenCall, function: &Option<Text>) -> Result<Vec<u8>, Memory>
+    requires { IsRequestForm (request.Ask call.now.id call.now.asked function.now) }
+    ensures { IfOk result (λ line. request_of line.items ≡ Ok (request.Ask call.now.id call.now.asked function.now)) }
+{
+    let parts = line_parts(alloc, &call.asked, function)?;
+    Ok(parts.fill(call.id))
+}
+
+/// Sends the request of a call, which is open then.
 pub(crate) fn open_call<W: World, C: Child<W>>(
     alloc: Global,
     child: &mut C,
-    request: &Request,
-) -> Result<(), AskEnd>
-    requires form { IsRequestForm request.now }
+    call: &OpenCall,
+    function: &Option<Text>,
+) -> Result<(), CallEnd>
+    requires form { IsRequestForm (request.Ask call.now.id call.now.asked function.now) }
+    requires first { call.now.taken ≡ 0 }
     requires none { IsTrue W.tells → pending (C.log child.old) ≡ [] }
-    ensures opened { IsTrue W.tells → OnOk result (pending (C.log child.new) ≡ opened (Ok request.now) []) }
-    ensures lost { IfLost result (λ loss. has_cause loss (C.faulted child.new) (C.gives child.new) (C.last child.new) ≡ true) }
-    ensures honest { IfLost result (λ loss. is_fault loss ≡ true) }
+    ensures opened { IsTrue W.tells → OnOk result (pending (C.log child.new) ≡ call.now ∷ []) }
+    ensures own { C.connection child.new ≡ C.connection child.old }
+    ensures lost { IfLost result (1 ≤ C.faulted child.new) }
 {
-    let line = request_line(alloc, request)?;
+    let Ok(line) = line_of(alloc, call, function) else {
+        return Err(CallEnd::Memory);
+    };
     match child.send(&line) {
         Ok(()) => Ok(()),
-        Err(_) => Err(AskEnd::Lost(Loss::Fault)),
+        Err(_) => Err(CallEnd::Lost),
     }
 }

@@ -1,33 +1,35 @@
-ghost use Rattle.std.specs.Prelude.{◌≡◌, ◌<◌, ◌^◌, [], length, IsTrue, IfOk, OnOk, Ok, Err, Some, true};
+ghost use Rattle.std.specs.Prelude.{◌≡◌, ◌≤◌, ◌<◌, ◌+◌, ◌^◌, [], length, IsTrue, IfOk, OnOk, Ok, Err, Some, true};
 ghost use Rattle.serde_json.specs.View.{view};
 ghost use Rattle.sp_model.specs.declared.call.Asked.TheVariants as asked;
 ghost use Rattle.sp_world.specs.RequestLines.{IsAskedForm};
 ghost use Rattle.sp_outside.specs.Log.{pending};
 ghost use Rattle.child_calls.specs.Asking.{IsHonest, IsSound};
-ghost use Rattle.child_calls.specs.Kids.{is_running, is_lost, is_caused, is_by_fault};
+ghost use Rattle.child_calls.specs.Kids.{is_running, is_lost};
 ghost use Rattle.child_calls.specs.declared.stage.Stage.TheVariants as stage;
-ghost use Rattle.child_calls.specs.declared.stage.CallEnd.TheVariants as end;
 
 use crate::fetching::{ask_declaration, ask_version, fetch_reply};
 use crate::stage::{CallEnd, Stage};
 use serde_json::Value;
 use sp_model::{CallKey, Reply, Version};
-use sp_outside::{Child, Loss};
+use sp_outside::Child;
 use sp_value::Text;
 use sp_world::World;
 use std::alloc::Global;
 use std::marker::PhantomData;
+
+/// The greatest number of a call.
+const LAST_CALL: u64 = (1 << 63) - 1;
 
 /// The child of a connection. It is started at its first call, its calls are numbered from 1, and once it is lost it stays so.
 #[derive(Drop)]
 pub struct Kid<W: World, C: Child<W> + Drop> {
     pub child: C,
     pub stage: Stage,
-    sent: u32,
+    sent: u64,
     of: PhantomData<W>,
     pub ghost quiet: { is_running stage ≡ true → IsTrue W.tells → length (pending (C.log child)) ≡ 0 },
-    pub ghost caused: { is_caused stage (C.faulted child) (C.gives child) (C.last child) ≡ true },
-    pub ghost honest: { IsTrue W.tells → IsHonest W.book → is_by_fault stage ≡ true },
+    pub ghost counted: { is_lost stage ≡ true → 1 ≤ C.faulted child + C.gives child },
+    pub ghost honest: { IsTrue W.tells → IsHonest W.book → is_lost stage ≡ true → 1 ≤ C.faulted child },
 }
 
 impl<W: World, C: Child<W> + Drop> Kid<W, C> {
@@ -48,24 +50,26 @@ impl<W: World, C: Child<W> + Drop> Kid<W, C> {
     fn next_call(&mut self) -> Result<u64, CallEnd>
         ensures running { OnOk result (is_running self.new.stage ≡ true) }
         ensures number { IfOk result (λ id. id < 2 ^ 63) }
+        ensures own { C.connection self.new.child ≡ C.connection self.old.child }
         ensures lost { result ≡ Err CallEnd.Lost → is_lost self.new.stage ≡ true }
         ensures kept { is_lost self.old.stage ≡ true → (result ≡ Err CallEnd.Lost) × (self.new.stage ≡ self.old.stage) × (self.new.child ≡ self.old.child) }
     {
-        match &self.stage {
-            Stage::Lost(_) => return Err(CallEnd::Lost),
+        match self.stage {
+            Stage::Lost => return Err(CallEnd::Lost),
             Stage::Running => {}
             Stage::Unstarted => self.start()?,
         }
-        let Some(sent) = self.sent.checked_add(1) else {
+        if self.sent >= LAST_CALL {
             return Err(CallEnd::Memory);
-        };
-        self.sent = sent;
-        Ok(sent as u64)
+        }
+        self.sent += 1;
+        Ok(self.sent)
     }
 
     fn start(&mut self) -> Result<(), CallEnd>
         requires { self.old.stage ≡ stage.Unstarted }
         ensures running { OnOk result (is_running self.new.stage ≡ true) }
+        ensures own { C.connection self.new.child ≡ C.connection self.old.child }
         ensures lost { result ≡ Err CallEnd.Lost → is_lost self.new.stage ≡ true }
     {
         match self.child.start() {
@@ -74,7 +78,7 @@ impl<W: World, C: Child<W> + Drop> Kid<W, C> {
                 Ok(())
             }
             Err(_) => {
-                self.stage = Stage::Lost(Loss::Fault);
+                self.stage = Stage::Lost;
                 Err(CallEnd::Lost)
             }
         }
@@ -83,13 +87,17 @@ impl<W: World, C: Child<W> + Drop> Kid<W, C> {
     /// Asks for the declaration of the connection.
     pub fn declaration(&mut self, alloc: Global, connection: &Text) -> Result<Value, CallEnd>
         ensures told { IsTrue W.tells → IfOk result (λ v. view v ≡ W.book.declaration connection.now) }
+        ensures own { C.connection self.new.child ≡ C.connection self.old.child }
         ensures lost { result ≡ Err CallEnd.Lost → is_lost self.new.stage ≡ true }
         ensures kept { is_lost self.old.stage ≡ true → (result ≡ Err CallEnd.Lost) × (self.new.stage ≡ self.old.stage) × (self.new.child ≡ self.old.child) }
     {
         let id = self.next_call()?;
         match ask_declaration::<W, C>(alloc, &mut self.child, id, connection) {
             Ok(value) => Ok(value),
-            Err(end) => Err(self.stage.end(end)),
+            Err(end) => {
+                self.stage = Stage::after(end);
+                Err(end)
+            }
         }
     }
 
@@ -103,13 +111,17 @@ impl<W: World, C: Child<W> + Drop> Kid<W, C> {
         requires { tick < 2 ^ 63 }
         ensures told { IsTrue W.tells → IfOk result (λ v. v ≡ W.book.version connection.now tick) }
         ensures sound { IfOk result IsSound }
+        ensures own { C.connection self.new.child ≡ C.connection self.old.child }
         ensures lost { result ≡ Err CallEnd.Lost → is_lost self.new.stage ≡ true }
         ensures kept { is_lost self.old.stage ≡ true → (result ≡ Err CallEnd.Lost) × (self.new.stage ≡ self.old.stage) × (self.new.child ≡ self.old.child) }
     {
         let id = self.next_call()?;
         match ask_version::<W, C>(alloc, &mut self.child, id, connection, tick) {
             Ok(version) => Ok(version),
-            Err(end) => Err(self.stage.end(end)),
+            Err(end) => {
+                self.stage = Stage::after(end);
+                Err(end)
+            }
         }
     }
 
@@ -117,13 +129,17 @@ impl<W: World, C: Child<W> + Drop> Kid<W, C> {
     pub fn reply(&mut self, alloc: Global, key: CallKey, function: Text) -> Result<Reply, CallEnd>
         requires { IsAskedForm (Some function) (asked.Call key) }
         ensures told { IsTrue W.tells → IfOk result (λ r. r ≡ W.book.reply key) }
+        ensures own { C.connection self.new.child ≡ C.connection self.old.child }
         ensures lost { result ≡ Err CallEnd.Lost → is_lost self.new.stage ≡ true }
         ensures kept { is_lost self.old.stage ≡ true → (result ≡ Err CallEnd.Lost) × (self.new.stage ≡ self.old.stage) × (self.new.child ≡ self.old.child) }
     {
         let id = self.next_call()?;
         match fetch_reply::<W, C>(alloc, &mut self.child, id, key, function) {
             Ok(reply) => Ok(reply),
-            Err(end) => Err(self.stage.end(end)),
+            Err(end) => {
+                self.stage = Stage::after(end);
+                Err(end)
+            }
         }
     }
 

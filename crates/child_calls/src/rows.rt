@@ -1,41 +1,14 @@
 ghost use Rattle.std.specs.Prelude.{◌≡◌, ◌+◌, ◌<◌, ◌^◌, [], ◌∷◌, ◌++◌, IfOk, OnOk, length};
-ghost use Rattle.sp_model.specs.Fields.{field, is_of_kind};
-ghost use Rattle.sp_model.specs.RowOf.{checked, has_name, columns_named};
+ghost use Rattle.sp_model.specs.Fields.{field};
+ghost use Rattle.sp_model.specs.RowOf.{checked};
 ghost use Rattle.sp_model.specs.Walk.{is_reached};
 ghost use Rattle.child_calls.specs.PlainScan.{after_rows};
 ghost use Rattle.sp_model.specs.PlainList.{plain_row, plain_end, plain_rows};
 
-use sp_model::{Cause, ColumnDecl, Ending, Outcome, Row, ScanValue};
+use sp_model::{Cause, ColumnDecl, Ending, Outcome, Row, ScanValue, field, is_of_kind};
 use sp_value::{Cell, Cells, Kind, Memory, Rows, Text, TryCopy};
 use sqlite_items::Items;
 use std::alloc::Global;
-
-/// The value under a name in an object, null where there is none.
-fn field(alloc: Global, name: &Text, item: &Cell) -> Result<Cell, Memory>
-    ensures { IfOk result (λ c. c ≡ field name.now item.now) }
-{
-    match item {
-        Cell::Object(members) => match members.get(name.as_str()) {
-            Some(value) => value.copy(alloc),
-            None => Ok(Cell::Null),
-        },
-        _ => Ok(Cell::Null),
-    }
-}
-
-/// Whether a value is of a kind: null is of every kind, and every value is of the kind json.
-fn is_of_kind(kind: Kind, value: &Cell) -> bool
-    ensures { result ≡ is_of_kind kind value.now }
-{
-    match (kind, value) {
-        (Kind::Json, _) => true,
-        (_, Cell::Null) => true,
-        (Kind::Bool, Cell::Bool(_)) => true,
-        (Kind::Int, Cell::Int(_)) => true,
-        (Kind::Text, Cell::Text(_)) => true,
-        _ => false,
-    }
-}
 
 fn checked(kind: Kind, value: Cell) -> Outcome
     ensures { result ≡ checked kind value }
@@ -50,7 +23,10 @@ fn checked(kind: Kind, value: Cell) -> Outcome
 fn column_value(alloc: Global, column: &ColumnDecl, item: &Cell) -> Result<Outcome, Memory>
     ensures { IfOk result (λ o. o ≡ checked column.now.kind (field column.now.field item.now)) }
 {
-    let value = field(alloc, &column.field, item)?;
+    let value = match field(&column.field, item) {
+        Some(value) => value.copy(alloc)?,
+        None => Cell::Null,
+    };
     Ok(checked(column.kind, value))
 }
 
@@ -152,29 +128,4 @@ pub fn plain_rows(
     }
     let value = ended(alloc, rows, function, before + 1, ending)?;
     Ok(value)
-}
-
-fn has_name(names: &[Text], name: &Text) -> bool
-    ensures { result ≡ has_name names.now name.now }
-{
-    names.iter().any(|n| *n == *name)
-}
-
-/// The columns of these names, in the order of the table.
-pub fn columns_named(
-    alloc: Global,
-    names: &[Text],
-    columns: &[ColumnDecl],
-) -> Result<Items<ColumnDecl>, Memory>
-    ensures { IfOk result (λ found. found ≡ columns_named names.now columns.now) }
-{
-    let mut found = Items::new(alloc);
-    for column in columns {
-        if has_name(names, &column.name) {
-            let Ok(()) = found.push(column.copy(alloc)?) else {
-                return Err(Memory);
-            };
-        }
-    }
-    Ok(found)
 }

@@ -1,17 +1,14 @@
-ghost use Rattle.std.specs.Prelude.{◌≡◌, Err, false};
-ghost use Rattle.child_calls.specs.Kids.{is_lost};
-ghost use Rattle.child_calls.specs.Stages.{stage_after, end_of};
+ghost use Rattle.std.specs.Prelude.{◌≡◌};
+ghost use Rattle.child_calls.specs.Kids.{is_lost, stage_after};
 
-use crate::asking::AskEnd;
-use sp_outside::Loss;
 use sp_value::Memory;
 
 /// How far a child is: not started, ready for a call, or lost, which it stays.
-#[derive(Drop)]
+#[derive(Clone, Copy, Debug, PartialEq, Eq)]
 pub enum Stage {
     Unstarted,
     Running,
-    Lost(Loss),
+    Lost,
 }
 
 /// Why a call has no answer: its child is lost, or memory is wanting.
@@ -27,25 +24,18 @@ impl Stage {
         ensures { result ≡ is_lost self.now }
     {
         match self {
-            Stage::Lost(_) => true,
+            Stage::Lost => true,
             _ => false,
         }
     }
 
     /// After a call without an answer. A child whose call may be open for want of memory is started anew.
-    pub(crate) fn end(&mut self, end: AskEnd) -> CallEnd
-        ensures stage { self.new ≡ stage_after end }
-        ensures end { result ≡ end_of end }
+    pub(crate) fn after(end: CallEnd) -> Stage
+        ensures { result ≡ stage_after end }
     {
         match end {
-            AskEnd::Lost(loss) => {
-                *self = Stage::Lost(loss);
-                CallEnd::Lost
-            }
-            AskEnd::Memory => {
-                *self = Stage::Unstarted;
-                CallEnd::Memory
-            }
+            CallEnd::Lost => Stage::Lost,
+            CallEnd::Memory => Stage::Unstarted,
         }
     }
 }

@@ -9,7 +9,7 @@ use Rattle.sp_model.specs.declared.declaration.FunctionDecl.{FunctionDecl}
 use Rattle.sp_model.specs.Hydration.{names_of_functions}
 use Rattle.decl_words.specs.Leftover.{waits_for, still_waiting, after_rounds, leftover}
 use Rattle.sp_model.specs.Names.{has_name}
-use Rattle.decl_words.specs.Refusals.{repeats, is_unknown, depends_on_unknown}
+use Rattle.decl_words.specs.Refusals.{repeats, depends_on_unknown}
 use Rattle.decl_core.specs.Taking.{stays, can_be_taken, with_taken, after_turns, takes_one, at_places}
 use Rattle.decl_words.proofs.Lists.{In, In-filter, filter-In, filter-shorter, filter-filter, filter-all, some_fails, none_passes, In-all, slice_get-In}
 use Rattle.decl_words.proofs.Functions.{named, has_name-In, dependency-known}

@@ -2,18 +2,7 @@
 //! standard output. It ends with 0 at the end of the input, else with 1, and says on standard error why.
 #![tactic(auto)]
 
-mod attempt;
-mod book;
-mod book_file;
-mod declared;
-mod fault;
-mod matching;
-#[cfg(test)]
-mod tests;
-mod version_at;
-
-use crate::book::Book;
-use crate::book_file::read_book;
+use book_file::{Book, read_book};
 use plugin_kit::{Served, serve};
 use std::process::ExitCode;
 use std::{env, fs};

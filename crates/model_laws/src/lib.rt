@@ -1,4 +1,8 @@
 //! Laws of the definitions that say how several of them fit together, each named by the contract of a function that does nothing.
+//!
+//! A kept scan that covers a request has its rows (`specs/Covered.antt`); a book that answers by leaving out items keeps what subset keys
+//! promise (`FilteringBooks`); on a whole book nothing waits (`WholeBook`); a lawful scan makes lawful calls (`LawfulScans`); units are scans
+//! of their connections, and without a cache true notes are fresh (`UnitsAndNotes`). For proofs alone.
 #![tactic(auto)]
 
 ghost use Rattle.model_laws.specs.Covered.{CoveredScanGivesTheRows};

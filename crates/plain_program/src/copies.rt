@@ -1,23 +1,8 @@
-ghost use Rattle.std.specs.Prelude.{◌≡◌, ◌++◌, OnOk, IfOk};
+ghost use Rattle.std.specs.Prelude.{◌≡◌, IfOk};
 ghost use Rattle.sp_model.specs.Settling.{or_else};
 
 use sp_value::{Memory, TryCopy};
-use sqlite_items::Items;
 use std::alloc::Global;
-
-/// Puts copies of things at the end of a list.
-pub(crate) fn push_copies<T: TryCopy>(
-    alloc: Global,
-    into: &mut Items<T>,
-    things: &[T],
-) -> Result<(), Memory>
-    ensures { OnOk result (into.new ≡ into.old ++ things.now) }
-{
-    for thing in things {
-        into.push(thing.copy(alloc)?)?;
-    }
-    Ok(())
-}
 
 /// The first where there is one, else the other.
 pub(crate) fn or_else<T: TryCopy>(

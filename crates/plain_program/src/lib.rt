@@ -5,7 +5,6 @@
 mod copies;
 mod hydrate;
 mod item;
-mod keys;
 mod replies;
 mod scan;
 mod script;
@@ -14,7 +13,6 @@ mod walking;
 
 pub use hydrate::hydrated;
 pub use item::row_of;
-pub use keys::{choose, is_met, missing_keys, sent};
 pub use replies::Replies;
 pub use scan::{OfItem, OfParent, scan_value, scan_walk};
 pub use script::{Script, Written};

@@ -1,2 +1,3 @@
 pub mod RowTruth
 pub mod RowOrder
+pub mod RowJoins

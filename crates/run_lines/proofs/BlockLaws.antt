@@ -25,25 +25,25 @@ blocks_more P lines i l bs b within is h one =
     subst (λ (ls : List Line). AreBlocksSo P ls (bs ++ b ∷ [])) (sym (take_more lines i l within ∙ ap (λ x. take i lines ++ x ∷ []) (sym is)))
     (one_more P (take i lines) bs l b h one)
 
-pub spent_more : (P : List ℕ → Type 0) (bs : List Block) (b : Block) → AllSpent P bs → IfSpent b.answer.end P → AllSpent P (bs ++ b ∷ [])
+pub spent_more : (P : List ℕ → ℕ → Type 0) (bs : List Block) (b : Block) → AllSpent P bs → IfSpent b.answer.end P → AllSpent P (bs ++ b ∷ [])
 spent_more P [] b h one = (one, tt)
 spent_more P (c ∷ cs) b h one = (h.0, spent_more P cs b h.1 one)
 
-pub end_maps : (P Q : List ℕ → Type 0) (e : AnswerEnd) → ((name : List ℕ) → P name → Q name) → IfSpent e P → IfSpent e Q
-end_maps P Q (end.RestartsSpent name losses) f h = f name h
+pub end_maps : (P Q : List ℕ → ℕ → Type 0) (e : AnswerEnd) → ((name : List ℕ) (losses : ℕ) → P name losses → Q name losses) → IfSpent e P → IfSpent e Q
+end_maps P Q (end.RestartsSpent name losses) f h = f name losses h
 end_maps P Q (end.Rows rows) f h = tt
 end_maps P Q (end.Refused x) f h = tt
 end_maps P Q (end.ScanFailed scan row column cause) f h = tt
 end_maps P Q end.Memory f h = tt
 
-pub spent_maps : (P Q : List ℕ → Type 0) (bs : List Block) → ((name : List ℕ) → P name → Q name) → AllSpent P bs → AllSpent Q bs
+pub spent_maps : (P Q : List ℕ → ℕ → Type 0) (bs : List Block) → ((name : List ℕ) (losses : ℕ) → P name losses → Q name losses) → AllSpent P bs → AllSpent Q bs
 spent_maps P Q [] f h = tt
 spent_maps P Q (b ∷ bs) f h = (end_maps P Q b.answer.end f h.0, spent_maps P Q bs f h.1)
 
 -- what was lost stays lost
 pub spent_stays : (cs : List Connection) (before after : List Stage) (bs : List Block) → StayLost before after → length before ≡ length after
-    → AllSpent (λ c. lost_for cs before c ≡ true) bs → AllSpent (λ c. lost_for cs after c ≡ true) bs
-spent_stays cs before after bs stay same h = spent_maps _ _ bs (λ name l. lost_stays cs before after name stay same l) h
+    → AllSpent (λ c losses. (losses ≡ 1) × (lost_for cs before c ≡ true)) bs → AllSpent (λ c losses. (losses ≡ 1) × (lost_for cs after c ≡ true)) bs
+spent_stays cs before after bs stay same h = spent_maps _ _ bs (λ name losses l. (l.0, lost_stays cs before after name stay same l.1)) h
 
 length_of : {K X : Type 0} (f : K → X) (xs : List K) → length (map f xs) ≡ length xs
 length_of f [] = refl

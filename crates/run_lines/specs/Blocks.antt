@@ -1,10 +1,8 @@
 -- The answers to the lines of an input.
-use Rattle.std.specs.Prelude.{◌≡◌, ℕ, true, List, [], ◌∷◌, ◌++◌, bytes_eq, slice_get, Some}
+use Rattle.std.specs.Prelude.{◌≡◌, ℕ, ◌+◌, ◌≤◌, true, List, [], ◌∷◌, ◌++◌, length, map, take, bytes_eq, slice_get, Some}
 use Rattle.sp_model.specs.Book.{Book}
 use Rattle.sp_model.specs.declared.settings.Connection.{Connection}
 use Rattle.sp_model.specs.declared.settings.Settings.{Settings}
-use Rattle.sp_outside.specs.declared.log.Loss.{Loss}
-use Rattle.child_calls.specs.Asking.{has_cause, is_fault}
 use Rattle.input_lines.specs.declared.line.Line.{Line}
 use Rattle.input_lines.specs.declared.line.Line.TheVariants.{Statement, ClearCache, BadForm}
 use Rattle.session_core.specs.Answers.{refused, IsAnswer, IsByText, IfSpent}
@@ -32,23 +30,33 @@ AreAnswers book settings lines blocks = AreBlocksSo (IsAnswer book settings) lin
 abbrev pub AreByText : Settings → List Line → List Block → Type 0
 AreByText settings lines blocks = AreBlocksSo (IsByText settings) lines blocks
 
--- each spent restart budget is of a connection with this property
-abbrev pub AllSpent : (List ℕ → Type 0) → List Block → Type 0
+-- each spent restart budget is of a connection and a number of losses with this property
+abbrev pub AllSpent : (List ℕ → ℕ → Type 0) → List Block → Type 0
 AllSpent P [] = Unit {0}
 AllSpent P (b ∷ bs) = IfSpent b.answer.end P × AllSpent P bs
 
--- the child of the first connection of a name was lost, and its loss has its cause: a fault where the children tell and are honest
-pub record WasLost {Kid : Type 0} (faulted gives : Kid → ℕ) (last : Kid → List ℕ) (IsToldHonestly : Type 0) (connections : List Connection) (children : List Kid) (name : List ℕ) : Type 0 where
+-- the child of the first connection of a name was lost once more than the restart budget; its losses are counted, by its faults and the lines
+-- that it gave, and where the children tell and are honest by its faults alone
+pub record HasLostChild {Kid : Type 0} (faulted gives : Kid → ℕ) (IsToldHonestly : Type 0) (budget : ℕ) (connections : List Connection) (children : List Kid)
+    (name : List ℕ) (losses : ℕ) : Type 0 where
   pub place : ℕ
   pub connection : Connection
   pub child : Kid
-  pub loss : Loss
   pub named : (slice_get connections place ≡ Some connection) × (bytes_eq connection.name name ≡ true)
   pub beside : slice_get children place ≡ Some child
-  pub caused : has_cause loss (faulted child) (gives child) (last child) ≡ true
-  pub by_fault : IsToldHonestly → is_fault loss ≡ true
+  pub spent : losses ≡ budget + 1
+  pub counted : losses ≤ faulted child + gives child
+  pub by_faults : IsToldHonestly → losses ≤ faulted child
 
--- the children came back, and that of the connection of a name was lost
-abbrev pub HasLostChild : {Kid : Type 0} → (Kid → ℕ) → (Kid → ℕ) → (Kid → List ℕ) → Type 0 → List Connection → List Kid → List Kid → List ℕ → Type 0
-HasLostChild {Kid} faulted gives last IsToldHonestly connections back back_after name =
-    (children : List Kid) × (back_after ≡ back ++ children) × WasLost faulted gives last IsToldHonestly connections children name
+-- these children came back, those of the first connections, in their order
+pub record CameBack {Kid : Type 0} (own : Kid → List ℕ) (connections : List Connection) (back back_after children : List Kid) : Type 0 where
+  pub after : back_after ≡ back ++ children
+  pub of_first : map own children ≡ map (λ c. c.name) (take (length children) connections)
+
+-- so did those of all connections, and each spent restart budget has its lost child among them
+pub record AreOver {Kid : Type 0} (faulted gives : Kid → ℕ) (own : Kid → List ℕ) (IsToldHonestly : Type 0) (budget : ℕ) (connections : List Connection) (back back_after : List Kid)
+    (blocks : List Block) : Type 0 where
+  pub children : List Kid
+  pub after : back_after ≡ back ++ children
+  pub of_all : map own children ≡ map (λ c. c.name) connections
+  pub lost : AllSpent (HasLostChild faulted gives IsToldHonestly budget connections children) blocks

@@ -1,6 +1,6 @@
 // The children of connections.
 
-ghost use Rattle.std.specs.Prelude.{◌≡◌, ◌+◌, ◌≤◌, ◌<◌, ◌++◌, [], ◌∷◌, length, map, vec_len, vec_capacity, OnOk, OnErr};
+ghost use Rattle.std.specs.Prelude.{◌≡◌, ◌+◌, ◌≤◌, ◌<◌, ◌++◌, [], ◌∷◌, length, map, take, vec_len, vec_capacity, OnOk, OnErr};
 
 use child_calls::Kid;
 use sp_model::Connection;
@@ -29,7 +29,9 @@ fn make_one<W: World, M: Nursery<W>>(
 ) -> Result<(), Memory>
     ensures back { M.back nursery.new ≡ M.back nursery.old }
     ensures made { M.made nursery.new + length kids.old.items ≡ M.made nursery.old + length kids.new.items }
-    ensures ok { OnOk result (length kids.new.items ≡ length kids.old.items + 1) }
+    ensures ok { OnOk result (map (λ k. M.Kid.connection k.child) kids.new.items ≡ map (λ k. M.Kid.connection k.child) kids.old.items ++ connection.now.name ∷ []) }
+    ensures count { OnOk result (length kids.new.items ≡ length kids.old.items + 1) }
+    ensures err { OnErr result (kids.new.items ≡ kids.old.items) }
 {
     let Ok(()) = kids.reserve(1) else {
         return Err(Memory);
@@ -50,6 +52,7 @@ pub(crate) fn make_all<W: World, M: Nursery<W>>(
     ensures back { M.back nursery.new ≡ M.back nursery.old }
     ensures made { M.made nursery.new ≡ M.made nursery.old + length kids.new.items }
     ensures ok { OnOk result (length kids.new.items ≡ length connections.now) }
+    ensures names { map (λ k. M.Kid.connection k.child) kids.new.items ≡ map (λ c. c.name) (take (length kids.new.items) connections.now) }
 {
     for connection in connections {
         make_one::<W, M>(alloc, connection, nursery, kids)?;

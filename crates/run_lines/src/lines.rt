@@ -1,11 +1,11 @@
 // Lines, one after another.
 
-ghost use Rattle.std.specs.Prelude.{◌≡◌, ◌+◌, ◌<◌, ◌≤◌, ◌^◌, ◌++◌, [], ◌∷◌, length, map, true, IsTrue, IfOk};
+ghost use Rattle.std.specs.Prelude.{◌≡◌, ◌+◌, ◌<◌, ◌≤◌, ◌^◌, ◌++◌, [], ◌∷◌, length, map, true, List, IsTrue, IfOk};
 ghost use Rattle.child_calls.specs.Asking.{IsHonest};
 ghost use Rattle.session_core.specs.Answers.{refused, IsAnswer, IsByText, IfSpent, IsTold};
 ghost use Rattle.session_core.specs.Lost.{lost_for, StayLost};
 ghost use Rattle.session_core.specs.declared.answer.BlockFault.TheVariants as fault;
-ghost use Rattle.run_lines.specs.Blocks.{IsBlockSo, AreBlocksSo, AreAnswers, AreByText, AllSpent, HasLostChild};
+ghost use Rattle.run_lines.specs.Blocks.{IsBlockSo, AreBlocksSo, AreAnswers, AreByText, AllSpent, CameBack, AreOver};
 
 use crate::block::Block;
 use crate::children::{give_back, make_all};
@@ -48,9 +48,10 @@ fn run_line<W: World, C: Child<W> + Drop, K: Clock>(
     ensures text { IsBlockSo (IsByText catalog.old.settings) line.now result }
     ensures settings { catalog.new.settings ≡ catalog.old.settings }
     ensures catalog { IsTrue W.tells → IsTold W.book catalog.new }
-    ensures lost { IfSpent result.answer.end (λ c. lost_for catalog.new.settings.connections (map (λ k. k.stage) kids.new.items) c ≡ true) }
+    ensures lost { IfSpent result.answer.end (λ c losses. (losses ≡ 1) × (lost_for catalog.new.settings.connections (map (λ k. k.stage) kids.new.items) c ≡ true)) }
     ensures stay { StayLost (map (λ k. k.stage) kids.old.items) (map (λ k. k.stage) kids.new.items) }
     ensures count { length kids.new.items ≡ length kids.old.items }
+    ensures connections { map (λ k. C.connection k.child) kids.new.items ≡ map (λ k. C.connection k.child) kids.old.items }
     ensures still { pass.new.latest ≤ 2 ^ 62 }
 {
     match line {
@@ -84,8 +85,9 @@ fn run_all<W: World, C: Child<W> + Drop, K: Clock>(
     requires told { IsTrue W.tells → IsTold W.book catalog.old }
     ensures told { IsTrue W.tells → IfOk result (AreAnswers W.book catalog.old.settings lines.now) }
     ensures text { IfOk result (AreByText catalog.old.settings lines.now) }
-    ensures lost { IfOk result (AllSpent (λ c. lost_for catalog.old.settings.connections (map (λ k. k.stage) kids.new.items) c ≡ true)) }
+    ensures lost { IfOk result (AllSpent (λ c losses. (losses ≡ 1) × (lost_for catalog.old.settings.connections (map (λ k. k.stage) kids.new.items) c ≡ true))) }
     ensures count { length kids.new.items ≡ length kids.old.items }
+    ensures connections { map (λ k. C.connection k.child) kids.new.items ≡ map (λ k. C.connection k.child) kids.old.items }
 {
     let mut pass = ClockPass {
         readings: 0,
@@ -113,7 +115,8 @@ pub fn run_lines<W: World, M: Nursery<W>, K: Clock>(
     requires all_back { length (M.back nursery.old) ≡ M.made nursery.old }
     ensures told { IsTrue W.tells → IfOk result (AreAnswers W.book settings.now lines.now) }
     ensures text { IfOk result (AreByText settings.now lines.now) }
-    ensures lost { IfOk result (AllSpent (HasLostChild M.Kid.faulted M.Kid.gives M.Kid.last (IsTrue W.tells × IsHonest W.book) settings.now.connections (M.back nursery.old) (M.back nursery.new))) }
+    ensures over { IfOk result (AreOver M.Kid.faulted M.Kid.gives M.Kid.connection (IsTrue W.tells × IsHonest W.book) 0 settings.now.connections (M.back nursery.old) (M.back nursery.new)) }
+    ensures children { (children : List M.Kid) × CameBack M.Kid.connection settings.now.connections (M.back nursery.old) (M.back nursery.new) children }
     ensures back { length (M.back nursery.new) ≡ M.made nursery.new }
 {
     let mut catalog = Catalog::of(alloc, settings)?;

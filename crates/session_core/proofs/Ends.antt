@@ -49,9 +49,9 @@ spent_past connection call.Lost (end.Refused f) h = h
 spent_past connection call.Memory (end.Refused f) h = h
 
 -- it names its connection, whose child is lost
-pub spent_own : (connection : List ℕ) (c : CallEnd) (e : AnswerEnd) (IsLost : Type 0) → (c ≡ call.Lost → IsLost) → IsSpentOr connection c e → IfSpent e (λ n. (n ≡ connection) × IsLost)
+pub spent_own : (connection : List ℕ) (c : CallEnd) (e : AnswerEnd) (IsLost : Type 0) → (c ≡ call.Lost → IsLost) → IsSpentOr connection c e → IfSpent e (λ n losses. (losses ≡ 1) × (n ≡ connection) × IsLost)
 spent_own connection c end.Memory IsLost lost h = tt
-spent_own connection call.Lost (end.RestartsSpent name losses) IsLost lost h = (h.0, lost refl)
+spent_own connection call.Lost (end.RestartsSpent name losses) IsLost lost h = (h.1, h.0, lost refl)
 spent_own connection call.Memory (end.RestartsSpent name losses) IsLost lost h = absurd h
 spent_own connection c (end.Rows rows) IsLost lost h = tt
 spent_own connection c (end.Refused f) IsLost lost h = tt

@@ -70,17 +70,24 @@ kids_at stage [] place after within = absurd (omega arith)
 kids_at stage (x ∷ xs) zero after within = refl
 kids_at stage (x ∷ xs) (suc place) after within = kids_at stage xs place after (omega arith)
 
-pub lost_by : {T : Type 0} (r : Result T AnswerEnd) (connection : List ℕ) (one all : Bool) → all ≡ one → IfErr r (λ e. IfSpent e (λ c. (c ≡ connection) × (one ≡ true)))
-    → IfErr r (λ e. IfSpent e (λ c. (c ≡ connection) × (all ≡ true)))
-lost_by r connection one all same h = subst (λ b. IfErr r (λ e. IfSpent e (λ c. (c ≡ connection) × (b ≡ true)))) (sym same) h
+-- and each stays that of its connection
+pub kids_same : {K X : Type 0} (f : K → X) (kids : List K) (place : ℕ) (before after : K) → place < length kids → before ≡ get_or kids place before → f after ≡ f before
+    → map f (slice_set kids place after) ≡ map f kids
+kids_same f [] place before after within is same = absurd (omega arith)
+kids_same f (x ∷ xs) zero before after within is same = ap (λ y. y ∷ map f xs) (same ∙ ap f is)
+kids_same f (x ∷ xs) (suc place) before after within is same = ap (λ ys. f x ∷ ys) (kids_same f xs place before after (omega arith) is same)
 
-pub end_lost_by : (e : AnswerEnd) (connection : List ℕ) (one all : Bool) → all ≡ one → IfSpent e (λ c. (c ≡ connection) × (one ≡ true))
-    → IfSpent e (λ c. (c ≡ connection) × (all ≡ true))
-end_lost_by e connection one all same h = subst (λ b. IfSpent e (λ c. (c ≡ connection) × (b ≡ true))) (sym same) h
+pub lost_by : {T : Type 0} (r : Result T AnswerEnd) (connection : List ℕ) (one all : Bool) → all ≡ one → IfErr r (λ e. IfSpent e (λ c losses. (losses ≡ 1) × (c ≡ connection) × (one ≡ true)))
+    → IfErr r (λ e. IfSpent e (λ c losses. (losses ≡ 1) × (c ≡ connection) × (all ≡ true)))
+lost_by r connection one all same h = subst (λ b. IfErr r (λ e. IfSpent e (λ c losses. (losses ≡ 1) × (c ≡ connection) × (b ≡ true)))) (sym same) h
+
+pub end_lost_by : (e : AnswerEnd) (connection : List ℕ) (one all : Bool) → all ≡ one → IfSpent e (λ c losses. (losses ≡ 1) × (c ≡ connection) × (one ≡ true))
+    → IfSpent e (λ c losses. (losses ≡ 1) × (c ≡ connection) × (all ≡ true))
+end_lost_by e connection one all same h = subst (λ b. IfSpent e (λ c losses. (losses ≡ 1) × (c ≡ connection) × (b ≡ true))) (sym same) h
 
 pub end_lost_for : (e : AnswerEnd) (cs : List Connection) (stages : List Stage) (connection : List ℕ) (place : ℕ) → lost_for cs stages connection ≡ is_lost_at stages place
-    → IfSpent e (λ c. (c ≡ connection) × (is_lost_at stages place ≡ true)) → IfSpent e (λ c. lost_for cs stages c ≡ true)
-end_lost_for (end.RestartsSpent name losses) cs stages connection place stands h = ap (lost_for cs stages) h.0 ∙ stands ∙ h.1
+    → IfSpent e (λ c losses. (losses ≡ 1) × (c ≡ connection) × (is_lost_at stages place ≡ true)) → IfSpent e (λ c losses. (losses ≡ 1) × (lost_for cs stages c ≡ true))
+end_lost_for (end.RestartsSpent name losses) cs stages connection place stands h = (h.0, ap (lost_for cs stages) h.1 ∙ stands ∙ h.2)
 end_lost_for end.Memory cs stages connection place stands h = tt
 end_lost_for (end.Rows rows) cs stages connection place stands h = tt
 end_lost_for (end.Refused f) cs stages connection place stands h = tt

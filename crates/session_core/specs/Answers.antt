@@ -186,9 +186,9 @@ IsByNeeded answer (Ok connections) = IsPastNames answer.end
 abbrev pub IsByText : Settings → List ℕ → Answer → Type 0
 IsByText settings text answer = IsReadSo text answer (λ s. IsByNeeded answer (needed settings s))
 
--- the end is a spent restart budget, of a connection with this property
-abbrev pub IfSpent : AnswerEnd → (List ℕ → Type 0) → Type 0
-IfSpent (end.RestartsSpent connection losses) P = P connection
+-- the end is a spent restart budget, of a connection and a number of losses with this property
+abbrev pub IfSpent : AnswerEnd → (List ℕ → ℕ → Type 0) → Type 0
+IfSpent (end.RestartsSpent connection losses) P = P connection losses
 IfSpent _ P = Unit {0}
 
 -- what the catalog has is what the book's connections declare

@@ -47,8 +47,9 @@ pub(crate) fn declare<W: World, C: Child<W> + Drop>(
 ) -> Result<Declaration, AnswerEnd>
     ensures told { IsTrue W.tells → MatchResult result (λ d. declared W.book connection.now ≡ Ok d) (IsUndeclared connection.now (declared W.book connection.now)) }
     ensures past { IfErr result IsPastNames }
-    ensures lost { IfErr result (λ e. IfSpent e (λ c. (c ≡ connection.now) × (is_lost kid.new.stage ≡ true))) }
+    ensures lost { IfErr result (λ e. IfSpent e (λ c losses. (losses ≡ 1) × (c ≡ connection.now) × (is_lost kid.new.stage ≡ true))) }
     ensures stays { is_lost kid.old.stage ≡ true → is_lost kid.new.stage ≡ true }
+    ensures connection { C.connection kid.new.child ≡ C.connection kid.old.child }
 {
     match kid.declaration(alloc, connection) {
         Ok(value) => read(alloc, connection, &value),

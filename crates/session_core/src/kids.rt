@@ -47,9 +47,10 @@ fn declare_at<W: World, C: Child<W> + Drop>(
     requires { place < length kids.old.items }
     ensures told { IsTrue W.tells → MatchResult result (λ d. declared W.book connection.now ≡ Ok d) (IsUndeclared connection.now (declared W.book connection.now)) }
     ensures past { IfErr result IsPastNames }
-    ensures lost { IfErr result (λ e. IfSpent e (λ c. (c ≡ connection.now) × (is_lost_at (map (λ k. k.stage) kids.new.items) place ≡ true))) }
+    ensures lost { IfErr result (λ e. IfSpent e (λ c losses. (losses ≡ 1) × (c ≡ connection.now) × (is_lost_at (map (λ k. k.stage) kids.new.items) place ≡ true))) }
     ensures stay { StayLost (map (λ k. k.stage) kids.old.items) (map (λ k. k.stage) kids.new.items) }
     ensures count { length kids.new.items ≡ length kids.old.items }
+    ensures connections { map (λ k. C.connection k.child) kids.new.items ≡ map (λ k. C.connection k.child) kids.old.items }
 {
     declare::<W, C>(alloc, &mut kids[place], connection)
 }
@@ -70,9 +71,10 @@ fn declare_one<W: World, C: Child<W> + Drop>(
     ensures kept { StayDeclared catalog.old catalog.new }
     ensures undeclared { IsTrue W.tells → IfErr result (IsUndeclared connection.now (declared W.book connection.now)) }
     ensures past { IfErr result IsPastNames }
-    ensures lost { IfErr result (λ e. IfSpent e (λ c. lost_for catalog.new.settings.connections (map (λ k. k.stage) kids.new.items) c ≡ true)) }
+    ensures lost { IfErr result (λ e. IfSpent e (λ c losses. (losses ≡ 1) × (lost_for catalog.new.settings.connections (map (λ k. k.stage) kids.new.items) c ≡ true))) }
     ensures stay { StayLost (map (λ k. k.stage) kids.old.items) (map (λ k. k.stage) kids.new.items) }
     ensures count { length kids.new.items ≡ length kids.old.items }
+    ensures connections { map (λ k. C.connection k.child) kids.new.items ≡ map (λ k. C.connection k.child) kids.old.items }
 {
     if catalog.declaration(connection).is_some() {
         return Ok(());
@@ -102,9 +104,10 @@ pub(crate) fn declare_all<W: World, C: Child<W> + Drop>(
     ensures declared { OnOk result (AllDeclared catalog.new connections.now) }
     ensures undeclared { IsTrue W.tells → IfErr result (AreUndeclared W.book connections.now) }
     ensures past { IfErr result IsPastNames }
-    ensures lost { IfErr result (λ e. IfSpent e (λ c. lost_for catalog.new.settings.connections (map (λ k. k.stage) kids.new.items) c ≡ true)) }
+    ensures lost { IfErr result (λ e. IfSpent e (λ c losses. (losses ≡ 1) × (lost_for catalog.new.settings.connections (map (λ k. k.stage) kids.new.items) c ≡ true))) }
     ensures stay { StayLost (map (λ k. k.stage) kids.old.items) (map (λ k. k.stage) kids.new.items) }
     ensures count { length kids.new.items ≡ length kids.old.items }
+    ensures connections { map (λ k. C.connection k.child) kids.new.items ≡ map (λ k. C.connection k.child) kids.old.items }
 {
     for connection in connections {
         if let Err(end) = declare_one::<W, C>(alloc, kids, catalog, connection) {

@@ -1,10 +1,12 @@
 // The scan of a plan over a child.
 
-ghost use Rattle.std.specs.Prelude.{◌≡◌, ◌<◌, ◌≤◌, ◌^◌, [], ◌∷◌, Some, Err, Ok, IsTrue, IfOk, IfErr, true};
+ghost use Rattle.std.specs.Prelude.{◌≡◌, ◌<◌, ◌≤◌, ◌^◌, [], ◌∷◌, Some, None, Err, Ok, IsTrue, IfOk, IfErr, true};
 ghost use Rattle.sp_model.specs.PlainList.{is_plain, plain_key, plain_value};
 ghost use Rattle.sp_model.specs.RowOf.{columns_named};
 ghost use Rattle.sp_model.specs.Walk.{scan_value};
-ghost use Rattle.sp_model.specs.declared.call.Version.TheVariants.{Is};
+ghost use Rattle.sp_model.specs.Book.{Book};
+ghost use Rattle.sp_model.specs.declared.call.Version.TheVariants.{Is, Bad};
+ghost use Rattle.sp_model.specs.declared.scan.Cause.TheVariants.{BadVersion};
 ghost use Rattle.child_calls.specs.Asking.{IsSound};
 ghost use Rattle.child_calls.specs.Kids.{is_lost};
 ghost use Rattle.scan_plan.specs.Plans.{request_of, rows_by, wants_none};
@@ -13,10 +15,10 @@ ghost use Rattle.session_core.specs.Scans.{IsEnd, IsSpentOr, IsScanEnd, IsScanne
 ghost use Rattle.session_core.specs.declared.answer.AnswerEnd.TheVariants as end;
 
 use crate::answer::{Answer, AnswerEnd};
-use child_calls::{CallEnd, Kid, columns_named, plain_rows};
+use child_calls::{CallEnd, Kid, plain_rows};
 use scan_plan::{Heading, Making, PlainScan, Plan};
 use sp_model::{
-    Call, CallKey, Cause, Mark, Reply, ScanNote, ScanNotes, ScanValue, Version,
+    Call, CallKey, Cause, Mark, Reply, ScanNote, ScanNotes, ScanValue, Version, columns_named,
     plain_list_is_its_items,
 };
 use sp_outside::{Child, Clock, ClockPass};
@@ -105,6 +107,7 @@ fn scan_list<W: World, C: Child<W> + Drop>(
     ensures told { IsTrue W.tells → IfOk result (λ v. scan_value W.book scan.now.table (request_of scan.now) (Is version) ≡ Some v) }
     ensures lost { result ≡ Err CallEnd.Lost → is_lost kid.new.stage ≡ true }
     ensures stays { is_lost kid.old.stage ≡ true → is_lost kid.new.stage ≡ true }
+    ensures connection { C.connection kid.new.child ≡ C.connection kid.old.child }
 {
     let Some(list) = &scan.table.list else {
         unreachable!()
@@ -140,6 +143,20 @@ fn scan_end(alloc: Global, making: &Making, value: ScanValue) -> AnswerEnd
     }
 }
 
+/// The end of the one scan at a bad version.
+#[tactic(auto, unfolding(sp_model::specs::Walk::scan_value, sp_model::specs::Walk::walk_at))]
+fn bad_version(_plan: &Plan, text: Text) -> AnswerEnd
+    ensures told { (book : Book) → result ≡ scan_end _plan.now.making (scan_value book _plan.now.scan.table (request_of _plan.now.scan) (Bad text)) }
+    ensures end { result ≡ end.ScanFailed 1 0 None (BadVersion text) }
+{
+    AnswerEnd::ScanFailed {
+        scan: 1,
+        row: 0,
+        column: None,
+        cause: Cause::BadVersion(text),
+    }
+}
+
 /// The end of the one scan at a version.
 fn scan_at<W: World, C: Child<W> + Drop>(
     alloc: Global,
@@ -151,19 +168,13 @@ fn scan_at<W: World, C: Child<W> + Drop>(
     requires plain { is_plain plan.now.scan.table ≡ true }
     ensures told { IsTrue W.tells → IsScanEnd plan.now.scan.connection result (scan_end plan.now.making (scan_value W.book plan.now.scan.table (request_of plan.now.scan) version)) }
     ensures past { IsPastRefusals result }
-    ensures lost { IfSpent result (λ c. (c ≡ plan.now.scan.connection) × (is_lost kid.new.stage ≡ true)) }
+    ensures lost { IfSpent result (λ c losses. (losses ≡ 1) × (c ≡ plan.now.scan.connection) × (is_lost kid.new.stage ≡ true)) }
     ensures stays { is_lost kid.old.stage ≡ true → is_lost kid.new.stage ≡ true }
+    ensures connection { C.connection kid.new.child ≡ C.connection kid.old.child }
 {
     let number = match version {
         Version::Is(number) => number,
-        Version::Bad(text) => {
-            return AnswerEnd::ScanFailed {
-                scan: 1,
-                row: 0,
-                column: None,
-                cause: Cause::BadVersion(text),
-            };
-        }
+        Version::Bad(text) => return bad_version(plan, text),
     };
     match scan_list::<W, C>(alloc, kid, &plan.scan, number) {
         Ok(value) => scan_end(alloc, &plan.making, value),
@@ -222,8 +233,9 @@ fn scan<W: World, C: Child<W> + Drop>(
     requires plain { is_plain plan.now.scan.table ≡ true }
     ensures told { IsTrue W.tells → IsScannedAs plan.now.scan.connection result.notes result.end (value_end W.book plan.now asked) (value_notes W.book plan.now asked) }
     ensures past { IsPastRefusals result.end }
-    ensures lost { IfSpent result.end (λ c. (c ≡ plan.now.scan.connection) × (is_lost kid.new.stage ≡ true)) }
+    ensures lost { IfSpent result.end (λ c losses. (losses ≡ 1) × (c ≡ plan.now.scan.connection) × (is_lost kid.new.stage ≡ true)) }
     ensures stays { is_lost kid.old.stage ≡ true → is_lost kid.new.stage ≡ true }
+    ensures connection { C.connection kid.new.child ≡ C.connection kid.old.child }
 {
     let version = match kid.version(alloc, &plan.scan.connection, asked) {
         Ok(version) => version,
@@ -258,8 +270,9 @@ fn scan_wanted<W: World, C: Child<W> + Drop, K: Clock>(
     requires plain { is_plain plan.now.scan.table ≡ true }
     ensures told { IsTrue W.tells → IsPlanScan W.book plan.now pass.old.latest result.notes result.end }
     ensures past { IsPastRefusals result.end }
-    ensures lost { IfSpent result.end (λ c. (c ≡ plan.now.scan.connection) × (is_lost kid.new.stage ≡ true)) }
+    ensures lost { IfSpent result.end (λ c losses. (losses ≡ 1) × (c ≡ plan.now.scan.connection) × (is_lost kid.new.stage ≡ true)) }
     ensures stays { is_lost kid.old.stage ≡ true → is_lost kid.new.stage ≡ true }
+    ensures connection { C.connection kid.new.child ≡ C.connection kid.old.child }
     ensures later { pass.old.latest ≤ pass.new.latest }
     ensures still { pass.new.latest ≤ 2 ^ 62 }
 {
@@ -296,8 +309,9 @@ pub(crate) fn run_plan<W: World, C: Child<W> + Drop, K: Clock>(
     ensures told { IsTrue W.tells → IsPlanAnswer W.book plan pass.old.latest result }
     ensures began { result.began ≡ pass.old.latest }
     ensures past { IsPastRefusals result.end }
-    ensures lost { IfSpent result.end (λ c. (c ≡ plan.scan.connection) × (is_lost kid.new.stage ≡ true)) }
+    ensures lost { IfSpent result.end (λ c losses. (losses ≡ 1) × (c ≡ plan.scan.connection) × (is_lost kid.new.stage ≡ true)) }
     ensures stays { is_lost kid.old.stage ≡ true → is_lost kid.new.stage ≡ true }
+    ensures connection { C.connection kid.new.child ≡ C.connection kid.old.child }
     ensures later { pass.old.latest ≤ pass.new.latest }
     ensures still { pass.new.latest ≤ 2 ^ 62 }
 {

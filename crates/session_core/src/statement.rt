@@ -92,9 +92,10 @@ fn run_at<W: World, C: Child<W> + Drop, K: Clock>(
     ensures told { IsTrue W.tells → IsPlanAnswer W.book plan pass.old.latest result }
     ensures began { result.began ≡ pass.old.latest }
     ensures past { IsPastRefusals result.end }
-    ensures lost { IfSpent result.end (λ c. (c ≡ plan.scan.connection) × (is_lost_at (map (λ k. k.stage) kids.new.items) place ≡ true)) }
+    ensures lost { IfSpent result.end (λ c losses. (losses ≡ 1) × (c ≡ plan.scan.connection) × (is_lost_at (map (λ k. k.stage) kids.new.items) place ≡ true)) }
     ensures stay { StayLost (map (λ k. k.stage) kids.old.items) (map (λ k. k.stage) kids.new.items) }
     ensures count { length kids.new.items ≡ length kids.old.items }
+    ensures connections { map (λ k. C.connection k.child) kids.new.items ≡ map (λ k. C.connection k.child) kids.old.items }
     ensures later { pass.old.latest ≤ pass.new.latest }
     ensures still { pass.new.latest ≤ 2 ^ 62 }
 {
@@ -117,10 +118,11 @@ fn run_planned<W: World, C: Child<W> + Drop, K: Clock>(
     ensures told { IsTrue W.tells → IsPlanAnswer W.book plan pass.old.latest result }
     ensures began { result.began ≡ pass.old.latest }
     ensures past { IsPastRefusals result.end }
-    ensures own { IfSpent result.end (λ c. c ≡ plan.scan.connection) }
-    ensures lost { IfSpent result.end (λ c. lost_for connections.now (map (λ k. k.stage) kids.new.items) c ≡ true) }
+    ensures own { IfSpent result.end (λ c losses. c ≡ plan.scan.connection) }
+    ensures lost { IfSpent result.end (λ c losses. (losses ≡ 1) × (lost_for connections.now (map (λ k. k.stage) kids.new.items) c ≡ true)) }
     ensures stay { StayLost (map (λ k. k.stage) kids.old.items) (map (λ k. k.stage) kids.new.items) }
     ensures count { length kids.new.items ≡ length kids.old.items }
+    ensures connections { map (λ k. C.connection k.child) kids.new.items ≡ map (λ k. C.connection k.child) kids.old.items }
     ensures later { pass.old.latest ≤ pass.new.latest }
     ensures still { pass.new.latest ≤ 2 ^ 62 }
 {
@@ -147,9 +149,10 @@ fn run_read<W: World, C: Child<W> + Drop, K: Clock>(
     ensures past { IsPastNames result.end }
     ensures settings { catalog.new.settings ≡ catalog.old.settings }
     ensures catalog { IsTrue W.tells → IsTold W.book catalog.new }
-    ensures lost { IfSpent result.end (λ c. lost_for catalog.new.settings.connections (map (λ k. k.stage) kids.new.items) c ≡ true) }
+    ensures lost { IfSpent result.end (λ c losses. (losses ≡ 1) × (lost_for catalog.new.settings.connections (map (λ k. k.stage) kids.new.items) c ≡ true)) }
     ensures stay { StayLost (map (λ k. k.stage) kids.old.items) (map (λ k. k.stage) kids.new.items) }
     ensures count { length kids.new.items ≡ length kids.old.items }
+    ensures connections { map (λ k. C.connection k.child) kids.new.items ≡ map (λ k. C.connection k.child) kids.old.items }
     ensures later { pass.old.latest ≤ pass.new.latest }
     ensures still { pass.new.latest ≤ 2 ^ 62 }
 {
@@ -183,9 +186,10 @@ pub fn run_statement<W: World, C: Child<W> + Drop, K: Clock>(
     ensures text { IsByText catalog.old.settings text.now result }
     ensures settings { catalog.new.settings ≡ catalog.old.settings }
     ensures catalog { IsTrue W.tells → IsTold W.book catalog.new }
-    ensures lost { IfSpent result.end (λ c. lost_for catalog.new.settings.connections (map (λ k. k.stage) kids.new.items) c ≡ true) }
+    ensures lost { IfSpent result.end (λ c losses. (losses ≡ 1) × (lost_for catalog.new.settings.connections (map (λ k. k.stage) kids.new.items) c ≡ true)) }
     ensures stay { StayLost (map (λ k. k.stage) kids.old.items) (map (λ k. k.stage) kids.new.items) }
     ensures count { length kids.new.items ≡ length kids.old.items }
+    ensures connections { map (λ k. C.connection k.child) kids.new.items ≡ map (λ k. C.connection k.child) kids.old.items }
     ensures began { pass.old.latest ≤ result.began }
     ensures later { result.began ≤ pass.new.latest }
     ensures still { pass.new.latest ≤ 2 ^ 62 }

@@ -1,3 +1,5 @@
+ghost use Rattle.std.specs.Prelude.{◌≡◌, IfOk};
+
 use crate::settings::Pair;
 use sp_value::{Kind, Memory, Op, Text, Texts, TryCopy};
 use sqlite_items::Items;
@@ -45,10 +47,8 @@ pub struct Rule {
 
 impl TryCopy for Rule {
     fn copy(&self, alloc: Global) -> Result<Rule, Memory> {
-        Ok(Rule {
-            ignore: self.ignore.copy(alloc)?,
-            retry: self.retry.copy(alloc)?,
-        })
+        let rule = copied_rule(alloc, &self.ignore, &self.retry)?;
+        Ok(rule)
     }
 }
 
@@ -210,17 +210,58 @@ pub struct TableDecl {
 
 impl TryCopy for TableDecl {
     fn copy(&self, alloc: Global) -> Result<TableDecl, Memory> {
+        let name = self.name.copy(alloc)?;
+        let columns = self.columns.copy(alloc)?;
+        let functions = self.functions.copy(alloc)?;
+        let plugin = self.plugin.copy(alloc)?;
+        let Rule { ignore, retry } = copied_rule(alloc, &self.ignore, &self.retry)?;
+        let Accesses { list, get } = copied_accesses(alloc, &self.list, &self.get)?;
         Ok(TableDecl {
-            name: self.name.copy(alloc)?,
-            columns: self.columns.copy(alloc)?,
-            list: self.list.copy(alloc)?,
-            get: self.get.copy(alloc)?,
-            functions: self.functions.copy(alloc)?,
-            ignore: self.ignore.copy(alloc)?,
-            retry: self.retry.copy(alloc)?,
-            plugin: self.plugin.copy(alloc)?,
+            name,
+            columns,
+            list,
+            get,
+            functions,
+            ignore,
+            retry,
+            plugin,
         })
     }
+}
+
+/// The rules of a call or a table, copied.
+fn copied_rule(
+    alloc: Global,
+    ignore: &Option<Patterns>,
+    retry: &Option<Retry>,
+) -> Result<Rule, Memory>
+    ensures { IfOk result (λ r. r ≡ record { ignore = ignore.now; retry = retry.now }) }
+{
+    Ok(Rule {
+        ignore: ignore.copy(alloc)?,
+        retry: retry.copy(alloc)?,
+    })
+}
+
+/// A table's list and get.
+#[derive(Drop)]
+struct Accesses {
+    list: Option<ListDecl>,
+    get: Option<GetDecl>,
+}
+
+/// They are copied apart from the rest of a table: each early return drops what was copied before it, and the proof has every such drop.
+fn copied_accesses(
+    alloc: Global,
+    list: &Option<ListDecl>,
+    get: &Option<GetDecl>,
+) -> Result<Accesses, Memory>
+    ensures { IfOk result (λ a. a ≡ record { list = list.now; get = get.now }) }
+{
+    Ok(Accesses {
+        list: list.copy(alloc)?,
+        get: get.copy(alloc)?,
+    })
 }
 
 /// What a plugin declares: its tables, and the rules of calls that have none of their own.

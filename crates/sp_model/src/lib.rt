@@ -1,4 +1,7 @@
 //! What is asked of a connection and what it answers: calls, replies, versions, declarations, settings, scan requests and notes.
+//!
+//! Its `specs/` hold the definitions that every answer is measured by. Begin with `call` and `declaration`, then `specs/Settling.antt`,
+//! `Hydration.antt`, `RowOf.antt` and `Walk.antt`, in this order; docs/DEFINITIONS.md tells them in plain English.
 #![tactic(auto)]
 
 mod call;

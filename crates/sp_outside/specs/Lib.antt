@@ -6,4 +6,3 @@ pub mod Memories
 pub mod Log
 pub mod BookLog
 pub mod ChildState
-pub mod Scripted

@@ -1,4 +1,9 @@
 //! The outside as traits: where bytes are read and written, files, a clock, children that answer calls; and each of them in memory.
+//!
+//! `Source`, `Sink`, `Shelf`, `Clock`, `Child` and `Nursery` answer a fault only where their count of faults rose, or stands at its end
+//! (`specs/Causes.antt`). A child that tells has a log of the lines heard and given, from which its open calls follow (`specs/Log.antt`).
+//! `MemorySource`, `MemorySink`, `MemoryShelf`, `MemoryClock`, `BookChild` and `BookNursery` are the same in memory. Begin reading at
+//! `sink.rt`, the smallest of them.
 #![tactic(auto)]
 
 mod book_child;
@@ -6,8 +11,6 @@ mod book_log;
 mod book_nursery;
 mod child;
 mod child_script;
-#[cfg(test)]
-mod child_tests;
 mod clock;
 mod failing;
 mod log;
@@ -19,8 +22,6 @@ mod nursery;
 mod shelf;
 mod sink;
 mod source;
-#[cfg(test)]
-mod tests;
 
 pub use book_child::BookChild;
 pub use book_nursery::BookNursery;

@@ -1,4 +1,13 @@
 //! Values, their comparison, patterns, and values as JSON.
+//!
+//! `Cell` is a value, `Text` a text, `Members` are values under names, and `Memory` is want of memory, which goes up by `?`. Begin with
+//! `cell`, `text` and `members`; `specs/Truth.antt` says how values compare, `specs/Json.antt` which value JSON is.
+//!
+//! ```text
+//! let cell = from_json(alloc, &value)?;
+//! let copy = cell.copy(alloc)?;
+//! assert!(compare(Op::Eq, &cell, &Cell::Int(7)) == Truth::Yes);
+//! ```
 #![tactic(auto)]
 
 mod cell;

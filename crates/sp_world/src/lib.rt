@@ -1,4 +1,8 @@
 //! The reply book and what is told of it, and the lines between a child and its caller.
+//!
+//! A `World` names the reply book for contracts. What a line told of it stands in a `Told`, beside what was asked; a finished scan is a
+//! `Kept`. `request_line` and `read_request`, `reply_line` and `read_line` go both ways between values and lines; what each line says stands
+//! in `specs/RequestLines.antt` and `specs/ReplyLines.antt`. Begin reading at `world.rt` and `told.rt`. docs/PLUGINS.md shows the lines.
 #![tactic(auto)]
 
 mod kept;

@@ -56,10 +56,8 @@ fn text_of(alloc: Global, value: &Value) -> Result<String, Memory>
     ensures text { IfOk result (λ s. has_float (view value.now) ≡ false → string_bytes s ≡ compact_text (view value.now)) }
     ensures round { OnOk result (has_float (view value.now) ≡ false → depth (view value.now) ≤ max_depth → IsRound (view value.now)) }
 {
-    match value.to_string(alloc) {
-        Ok(text) => Ok(text),
-        Err(_) => Err(Memory),
-    }
+    let text = value.to_string(alloc)?;
+    Ok(text)
 }
 
 /// A text without its last byte, a closing brace, and then the name of the number.
@@ -68,13 +66,9 @@ fn opened(alloc: Global, text: String) -> Result<String, Memory>
     ensures { IfOk result (λ s. (before : List ℕ) → string_bytes text ≡ before ++ 125 ∷ [] → string_bytes s ≡ before ++ codes ",\"id\":") }
 {
     let (open, _) = text.as_str().split_at(text.len() - 1);
-    let Ok(mut head) = String::from_str(alloc, open) else {
-        return Err(Memory);
-    };
-    match head.push_str(",\"id\":") {
-        Ok(()) => Ok(head),
-        Err(_) => Err(Memory),
-    }
+    let mut head = String::from_str(alloc, open)?;
+    head.push_str(",\"id\":")?;
+    Ok(head)
 }
 
 /// A text whose first byte, an opening brace, is a comma instead.
@@ -83,13 +77,9 @@ fn continued(alloc: Global, text: String) -> Result<String, Memory>
     ensures { IfOk result (λ s. (behind : List ℕ) → string_bytes text ≡ 123 ∷ behind → string_bytes s ≡ 44 ∷ behind) }
 {
     let (_, rest) = text.as_str().split_at(1);
-    let Ok(mut tail) = String::from_str(alloc, ",") else {
-        return Err(Memory);
-    };
-    match tail.push_str(rest) {
-        Ok(()) => Ok(tail),
-        Err(_) => Err(Memory),
-    }
+    let mut tail = String::from_str(alloc, ",")?;
+    tail.push_str(rest)?;
+    Ok(tail)
 }
 
 /// What stands before the number, which follows the members of an object.
@@ -122,10 +112,8 @@ fn with_room(head: String, tail: String) -> Result<LineParts, Memory>
 {
     let mut head = head.into_bytes();
     let tail = tail.into_bytes();
-    match head.reserve(tail.len().saturating_add(20)) {
-        Ok(()) => Ok(LineParts { head, tail }),
-        Err(_) => Err(Memory),
-    }
+    head.reserve(tail.len().saturating_add(20))?;
+    Ok(LineParts { head, tail })
 }
 
 /// The line of a request but for its number. Of the protocol's form, it is read as itself again under each number below 2^63.

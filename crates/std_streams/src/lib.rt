@@ -4,7 +4,5 @@
 #![tactic(auto)]
 
 mod streams;
-#[cfg(test)]
-mod tests;
 
 pub use streams::{ReaderSource, WriterSink};

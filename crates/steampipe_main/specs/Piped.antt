@@ -2,8 +2,9 @@
 use Rattle.std.specs.Prelude.{ℕ, Bool, List, [], Option, None, Some, Vec}
 use Rattle.std.specs.declared.snapshot.Snapshot.{Snapshot}
 
--- the last line that it gave, its counts, and whether its last start was made
+-- the connection that it was made for, the last line that it gave, its counts, and whether its last start was made
 pub record Counts : Type 0 where
+  pub connection : List ℕ
   pub last : List ℕ
   pub faulted : ℕ
   pub sends : ℕ

@@ -4,6 +4,7 @@ ghost use Rattle.sp_outside.specs.Causes.{up};
 
 use crate::pending_lines::{LineEnd, PendingLines};
 use sp_outside::{Child, ChildEnd, Failed};
+use sp_value::Text;
 use sp_world::Untold;
 use std::alloc::{AllocError, Global};
 use std::io::{self, Write};
@@ -22,6 +23,7 @@ const LOOKS: u32 = 50;
 pub(crate) struct PipedChild<R: Processes + Clock + Copy> {
     rt: R,
     alloc: Global,
+    connection: Text,
     words: Vec<String>,
     running: Option<Running<R>>,
     pending: PendingLines,
@@ -59,17 +61,18 @@ impl<R: Processes + Clock + Copy> Model for PipedChild<R> {
 
     ghost Value = { Counts };
 
-    ghost view = { λ c. record { last = last_line c.last; faulted = c.faults; sends = c.sent; gives = c.given; runs = c.runs } };
+    ghost view = { λ c. record { connection = c.connection; last = last_line c.last; faulted = c.faults; sends = c.sent; gives = c.given; runs = c.runs } };
 }
 
 impl<R: Processes + Clock + Copy> PipedChild<R> {
-    /// A child that is not started, of a program and its arguments.
-    pub(crate) fn new(rt: R, alloc: Global, words: Vec<String>) -> PipedChild<R>
-        ensures { result ≡ record { last = []; faulted = 0; sends = 0; gives = 0; runs = false } }
+    /// The child of a connection, not started, of a program and its arguments.
+    pub(crate) fn new(rt: R, alloc: Global, connection: Text, words: Vec<String>) -> PipedChild<R>
+        ensures { result ≡ record { connection = connection; last = []; faulted = 0; sends = 0; gives = 0; runs = false } }
     {
         PipedChild {
             rt,
             alloc,
+            connection,
             words,
             running: None,
             pending: PendingLines::new(alloc),
@@ -158,6 +161,8 @@ impl<R: Processes + Clock + Copy> Child<Untold> for PipedChild<R> {
     ghost use Rattle.std.specs.Prelude.{[]};
 
     ghost log = { λ _. [] };
+
+    ghost connection = { λ c. c.connection };
 
     ghost last = { λ c. c.last };
 

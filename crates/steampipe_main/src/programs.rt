@@ -3,7 +3,7 @@ ghost use Rattle.std.specs.Prelude.{◌≡◌, ◌≤◌, [], vec_len, vec_capac
 use crate::piped::PipedChild;
 use sp_model::Connection;
 use sp_outside::Nursery;
-use sp_value::{Memory, Text};
+use sp_value::{Memory, Text, TryCopy};
 use sp_world::Untold;
 use std::alloc::Global;
 use std::process::Processes;
@@ -60,8 +60,9 @@ impl<R: Processes + Clock + Copy> Nursery<Untold> for Programs<R> {
         let Ok(()) = self.back.reserve(self.made + 1 - self.back.len()) else {
             return Err(Memory);
         };
+        let name = connection.name.copy(alloc)?;
         self.made += 1;
-        Ok(PipedChild::new(self.rt, alloc, words))
+        Ok(PipedChild::new(self.rt, alloc, name, words))
     }
 
     fn take_back(&mut self, child: PipedChild<R>) {

@@ -11,7 +11,7 @@ use Rattle.sp_outside.specs.Reading.{ReadsWhole, IsLonger}
 use Rattle.sp_outside.specs.Writing.{GrewByPrefix}
 use Rattle.child_calls.specs.Asking.{IsHonest}
 use Rattle.input_lines.specs.Lines.{blocks_of, HasTooManyLines}
-use Rattle.run_lines.specs.Blocks.{AreAnswers, AreByText, AllSpent, HasLostChild}
+use Rattle.run_lines.specs.Blocks.{AreAnswers, AreByText, AreOver, CameBack}
 use Rattle.run_lines.specs.declared.block.Block.{Block}
 use Rattle.session_core.specs.declared.answer.AnswerEnd.{AnswerEnd}
 use Rattle.session_core.specs.declared.answer.AnswerEnd.TheVariants as end
@@ -177,16 +177,16 @@ status_number InputLimit = 6
 status_number WriteFault = 7
 status_number Memory = 8
 
--- an input was answered by settings: its whole was read; the answers are the defined ones, where the children tell; each spent restart budget has its
--- lost child; the texts of the answers and of their notes were written
-pub record HasAnswered {Kid : Type 0} (faulted gives : Kid → ℕ) (last : Kid → List ℕ) (tells : Bool) (book : Book) (settings : Settings) (status : Status)
+-- an input was answered by settings: its whole was read; the answers are the defined ones, where the children tell; the children of all connections
+-- came back in their order, each spent restart budget has its lost child among them; the texts of the answers and of their notes were written
+pub record HasAnswered {Kid : Type 0} (faulted gives : Kid → ℕ) (own : Kid → List ℕ) (tells : Bool) (book : Book) (settings : Settings) (status : Status)
     (left left_after held held_after notes notes_after : Option (List ℕ)) (back back_after : List Kid) : Type 0 where
   pub input : List ℕ
   pub read : IsInput left left_after input
   pub blocks : List Block
   pub defined : IsTrue tells → AreAnswers book settings (blocks_of input) blocks
   pub text : AreByText settings (blocks_of input) blocks
-  pub lost : AllSpent (HasLostChild faulted gives last (IsTrue tells × IsHonest book) settings.connections back back_after) blocks
+  pub over : AreOver faulted gives own (IsTrue tells × IsHonest book) 0 settings.connections back back_after blocks
   pub written : IsWritten status blocks held held_after notes notes_after
 
 -- the words name a file, whose settings these are
@@ -194,6 +194,11 @@ pub record AreNamed (words : List (List ℕ)) (files : List ℕ → Option (Opti
   pub file : List ℕ
   pub named : words_of words ≡ Some file
   pub are : AreSettings (files file) settings
+
+-- no child came back; or those of the first connections of the settings that the words name, in their order
+abbrev pub AreReturned : {Kid : Type 0} → (Kid → List ℕ) → List (List ℕ) → (List ℕ → Option (Option (List ℕ))) → List Kid → List Kid → Type 0
+AreReturned {Kid} own words files back back_after =
+    (back_after ≡ back) ⊎ ((settings : Settings) × AreNamed words files settings × ((children : List Kid) × CameBack own settings.connections back back_after children))
 
 -- the words name a file whose settings are refused, by a line of which this holds
 pub record AreNone (words : List (List ℕ)) (files : List ℕ → Option (Option (List ℕ))) (faults faults_after : ℕ) (P : List ℕ → Type 0) : Type 0 where
@@ -204,8 +209,8 @@ pub record AreNone (words : List (List ℕ)) (files : List ℕ → Option (Optio
   pub line : P (settings_line why)
 
 -- a run answered its input, by the settings that its words name
-pub record HasRun {Kid : Type 0} (faulted gives : Kid → ℕ) (last : Kid → List ℕ) (tells : Bool) (book : Book) (words : List (List ℕ))
+pub record HasRun {Kid : Type 0} (faulted gives : Kid → ℕ) (own : Kid → List ℕ) (tells : Bool) (book : Book) (words : List (List ℕ))
     (files : List ℕ → Option (Option (List ℕ))) (status : Status) (left left_after held held_after notes notes_after : Option (List ℕ)) (back back_after : List Kid) : Type 0 where
   pub settings : Settings
   pub named : AreNamed words files settings
-  pub answered : HasAnswered faulted gives last tells book settings status left left_after held held_after notes notes_after back back_after
+  pub answered : HasAnswered faulted gives own tells book settings status left left_after held held_after notes notes_after back back_after

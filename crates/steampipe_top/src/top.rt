@@ -1,7 +1,8 @@
-ghost use Rattle.std.specs.Prelude.{◌≡◌, ◌≢◌, ◌⊎◌, ◌∷◌, [], length, MatchOption};
+ghost use Rattle.std.specs.Prelude.{◌≡◌, ◌≢◌, ◌⊎◌, ◌∷◌, [], List, length, MatchOption};
 ghost use Rattle.sp_outside.specs.Causes.{Rose};
 ghost use Rattle.sp_model.specs.declared.settings.Settings.{Settings};
-ghost use Rattle.steampipe_top.specs.Running.{words_of, AreNamed, AreNone, IsOverLimit, IsPastSettings, HasAnswered, HasRun, IsNoted, IfAnswered, IfRefused};
+ghost use Rattle.run_lines.specs.Blocks.{CameBack};
+ghost use Rattle.steampipe_top.specs.Running.{words_of, AreNamed, AreNone, AreReturned, IsOverLimit, IsPastSettings, HasAnswered, HasRun, IsNoted, IfAnswered, IfRefused};
 
 use crate::reading::{InputEnd, SettingsEnd, lines_of, settings_of};
 use crate::status::Status;
@@ -27,12 +28,13 @@ fn run<W: World, I: Source, O: Sink, N: Sink, M: Nursery<W>, K: Clock>(
     clock: &K,
 ) -> Status
     requires all_back { length (M.back nursery.old) ≡ M.made nursery.old }
-    ensures answered { IfAnswered result (HasAnswered M.Kid.faulted M.Kid.gives M.Kid.last W.tells W.book settings.now result (I.left input.old) (I.left input.new) (O.held answers.old) (O.held answers.new) (N.held notes.old) (N.held notes.new) (M.back nursery.old) (M.back nursery.new)) }
+    ensures answered { IfAnswered result (HasAnswered M.Kid.faulted M.Kid.gives M.Kid.connection W.tells W.book settings.now result (I.left input.old) (I.left input.new) (O.held answers.old) (O.held answers.new) (N.held notes.old) (N.held notes.new) (M.back nursery.old) (M.back nursery.new)) }
     ensures read_fault { result ≡ Status.ReadFault → Rose (I.faulted input.old) (I.faulted input.new) }
     ensures input_limit { result ≡ Status.InputLimit → IsOverLimit (I.left input.old) (I.left input.new) }
     ensures write_fault { result ≡ Status.WriteFault → Rose (O.faulted answers.old) (O.faulted answers.new) ⊎ Rose (N.faulted notes.old) (N.faulted notes.new) }
     ensures refused { IfRefused result (λ line. (O.held answers.new ≡ O.held answers.old) × IsNoted (N.faulted notes.old) (N.faulted notes.new) (N.held notes.old) (N.held notes.new) line) }
     ensures later { IsPastSettings result }
+    ensures children { (children : List M.Kid) × CameBack M.Kid.connection settings.now.connections (M.back nursery.old) (M.back nursery.new) children }
     ensures back { length (M.back nursery.new) ≡ M.made nursery.new }
 {
     let lines = match lines_of(alloc, input) {
@@ -63,7 +65,7 @@ pub fn steampipe<W: World, I: Source, F: Shelf, O: Sink, N: Sink, M: Nursery<W>,
     clock: &K,
 ) -> Status
     requires all_back { length (M.back nursery.old) ≡ M.made nursery.old }
-    ensures answered { IfAnswered result (HasRun M.Kid.faulted M.Kid.gives M.Kid.last W.tells W.book words.now (F.file files.old) result (I.left input.old) (I.left input.new) (O.held answers.old) (O.held answers.new) (N.held notes.old) (N.held notes.new) (M.back nursery.old) (M.back nursery.new)) }
+    ensures answered { IfAnswered result (HasRun M.Kid.faulted M.Kid.gives M.Kid.connection W.tells W.book words.now (F.file files.old) result (I.left input.old) (I.left input.new) (O.held answers.old) (O.held answers.new) (N.held notes.old) (N.held notes.new) (M.back nursery.old) (M.back nursery.new)) }
     ensures usage { MatchOption (words_of words.now) (result ≡ Status.Usage) (λ _. result ≢ Status.Usage) }
     ensures settings { result ≡ Status.Settings → AreNone words.now (F.file files.old) (F.faulted files.old) (F.faulted files.new) (λ line. (O.held answers.new ≡ O.held answers.old) × IsNoted (N.faulted notes.old) (N.faulted notes.new) (N.held notes.old) (N.held notes.new) line) }
     ensures file_fault { result ≡ Status.FileFault → Rose (F.faulted files.old) (F.faulted files.new) }
@@ -71,6 +73,7 @@ pub fn steampipe<W: World, I: Source, F: Shelf, O: Sink, N: Sink, M: Nursery<W>,
     ensures input_limit { result ≡ Status.InputLimit → ((settings : Settings) × AreNamed words.now (F.file files.old) settings) × IsOverLimit (I.left input.old) (I.left input.new) }
     ensures write_fault { result ≡ Status.WriteFault → Rose (O.faulted answers.old) (O.faulted answers.new) ⊎ Rose (N.faulted notes.old) (N.faulted notes.new) }
     ensures refused { IfRefused result (λ line. (O.held answers.new ≡ O.held answers.old) × IsNoted (N.faulted notes.old) (N.faulted notes.new) (N.held notes.old) (N.held notes.new) line) }
+    ensures children { AreReturned M.Kid.connection words.now (F.file files.old) (M.back nursery.old) (M.back nursery.new) }
     ensures back { length (M.back nursery.new) ≡ M.made nursery.new }
 {
     let Some(file) = read_words(words) else {

@@ -7,3 +7,4 @@ pub mod Serving
 pub mod Lawful
 pub mod Notes
 pub mod Filtering
+pub mod Declared

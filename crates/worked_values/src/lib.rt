@@ -5,6 +5,7 @@
 #![tactic(auto)]
 
 mod buckets;
+mod declared;
 mod filtering;
 mod keyed;
 mod lawful;
@@ -14,6 +15,7 @@ mod pieces;
 mod serving;
 
 pub use buckets::{functions_of_buckets, lists_of_buckets};
+pub use declared::{requests_of_a_table, tables_of_a_book};
 pub use filtering::{covered_scan, small_books};
 pub use keyed::{access, keys, units};
 pub use lawful::lawful_calls;

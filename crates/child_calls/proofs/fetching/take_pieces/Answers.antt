@@ -19,5 +19,6 @@ loop-place-preserved g c =
           ∙ one_item_more (reply_to g.W.World.book c.args.call.asked).items l.place c.in-Item.item l.items (l.invariant.items tells)
           (subst (λ a. slice_get (reply_to g.W.World.book a).items l.place ≡ Some c.in-Item.item) l.invariant.call.1 here);
       call = l.invariant.call;
+      own = c.in_ok-item.ensures.own ∙ l.invariant.own;
       within = omega (arith, within);
     }

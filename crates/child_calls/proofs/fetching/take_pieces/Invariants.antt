@@ -9,5 +9,6 @@ invariant-loop-place g l = record {
   opened : IsTrue g.W.World.tells → pending (g.C.Child.log l.child) ≡ open_at l.fn.call.id l.fn.call.asked l.place ∷ [];
   items : IsTrue g.W.World.tells → l.items ≡ take l.place (reply_to g.W.World.book l.fn.call.asked).items;
   call : (l.call.id ≡ l.fn.call.id) × (l.call.asked ≡ l.fn.call.asked);
+  own : g.C.Child.connection l.child ≡ g.C.Child.connection l.initial.child;
   within : l.place < 1000000;
 }

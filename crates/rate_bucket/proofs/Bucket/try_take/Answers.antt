@@ -1,4 +1,4 @@
-use Rattle.std.proofs.Common.{ℕ, refl, arith}
+use Rattle.std.proofs.Common.{refl, arith}
 use Rattle.rate_bucket.proofs.Bucket.try_take.Goals as goal
 
 pub returns-clause-exact : goal.returns-clause-exact

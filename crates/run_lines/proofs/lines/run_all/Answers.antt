@@ -29,7 +29,8 @@ loop-line-preserved g c =
           (spent_more _ before.blocks block
           (spent_stays settings.connections (map (λ k. k.stage) before.kids.items) (map (λ k. k.stage) ran.new.kids.items) before.blocks ran.ensures.stay
           (same_lengths (λ k. k.stage) before.kids.items ran.new.kids.items ran.ensures.count) before.invariant.lost)
-          (subst (λ x. IfSpent block.answer.end (λ n. lost_for x.connections (map (λ k. k.stage) ran.new.kids.items) n ≡ true)) same ran.ensures.lost));
+          (subst (λ x. IfSpent block.answer.end (λ n losses. (losses ≡ 1) × (lost_for x.connections (map (λ k. k.stage) ran.new.kids.items) n ≡ true))) same ran.ensures.lost));
       count = ran.ensures.count ∙ before.invariant.count;
+      connections = ran.ensures.connections ∙ before.invariant.connections;
       small = ran.ensures.still;
     }

@@ -11,7 +11,8 @@ invariant-loop-line g l = record {
   catalog : IsTrue g.W.World.tells → IsTold g.W.World.book l.catalog;
   told : IsTrue g.W.World.tells → AreAnswers g.W.World.book l.initial.catalog.settings (take l.line-index l.lines) l.blocks;
   text : AreByText l.initial.catalog.settings (take l.line-index l.lines) l.blocks;
-  lost : AllSpent (λ c. lost_for l.initial.catalog.settings.connections (map (λ k. k.stage) l.kids.items) c ≡ true) l.blocks;
+  lost : AllSpent (λ c losses. (losses ≡ 1) × (lost_for l.initial.catalog.settings.connections (map (λ k. k.stage) l.kids.items) c ≡ true)) l.blocks;
   count : length l.kids.items ≡ length l.initial.kids.items;
+  connections : map (λ k. g.C.Child.connection k.child) l.kids.items ≡ map (λ k. g.C.Child.connection k.child) l.initial.kids.items;
   small : l.pass.latest ≤ 2 ^ 62;
 }

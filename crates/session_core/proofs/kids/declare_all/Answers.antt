@@ -16,4 +16,5 @@ loop-connection-preserved g c = record {
       c.loop-connection-test.true c.connection-item.is c.loop-connection.invariant.declared c.declare_one.ensures.kept c.in_default.ensures.declared;
   stay = stay_more _ _ _ c.loop-connection.invariant.stay c.declare_one.ensures.stay;
   count = c.declare_one.ensures.count ∙ c.loop-connection.invariant.count;
+  connections = c.declare_one.ensures.connections ∙ c.loop-connection.invariant.connections;
 }

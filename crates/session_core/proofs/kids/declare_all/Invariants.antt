@@ -11,4 +11,5 @@ invariant-loop-connection g l = record {
   declared : AllDeclared l.catalog (take l.connection-index l.connections);
   stay : StayLost (map (λ k. k.stage) l.initial.kids.items) (map (λ k. k.stage) l.kids.items);
   count : length l.kids.items ≡ length l.initial.kids.items;
+  connections : map (λ k. g.C.Child.connection k.child) l.kids.items ≡ map (λ k. g.C.Child.connection k.child) l.initial.kids.items;
 }

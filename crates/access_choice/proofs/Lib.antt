@@ -1,0 +1,2 @@
+pub mod Valueless
+pub mod Accepting

@@ -1,0 +1,9 @@
+pub mod Numbering
+pub mod Hydrating
+pub mod Slots
+pub mod Chain
+pub mod Rows
+pub mod Ready
+pub mod Settling
+pub mod Results
+pub mod Wanting

@@ -1,0 +1,9 @@
+pub mod Journals
+pub mod KeyLemmas
+pub mod Lists
+pub mod Standing
+pub mod Grants
+pub mod Returns
+pub mod Maps
+pub mod Firsts
+pub mod Asks

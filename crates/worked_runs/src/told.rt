@@ -1,0 +1,105 @@
+//! Runs over children that tell.
+
+ghost use Rattle.std.specs.Prelude.{◌≡◌, []};
+
+use crate::child_case::{children_of, scripts_of};
+use crate::difference::Differences;
+use crate::fault::CaseFault;
+use crate::form::bytes_of;
+use crate::given::Given;
+use crate::run::{by_connection, compare_written, push_line, run};
+use crate::setup::{Setup, clock_of};
+use crate::text_world::{BookText, TextWorld};
+use crate::worlds::AntAndBee;
+use sp_outside::{BookChild, BookNursery, ChildScript, Event};
+use sp_world::World;
+use sqlite_items::Items;
+use std::alloc::{AllocError, Global};
+
+/// Adds the lines that a child heard.
+fn push_heard(lines: &mut Vec<u8>, events: &[Event]) -> Result<(), AllocError> {
+    for event in events {
+        match event {
+            Event::Heard(line) => push_line(lines, line.as_slice())?,
+            _ => {}
+        }
+    }
+    Ok(())
+}
+
+/// The lines that the children heard, those of one after those of another.
+fn lines_heard<W: World>(alloc: Global, children: &[BookChild<W>]) -> Result<Vec<u8>, AllocError> {
+    let mut lines = Vec::new(alloc);
+    for child in children {
+        push_heard(&mut lines, child.events())?;
+    }
+    Ok(lines)
+}
+
+/// The lines that the case wants heard, by the names of the connections.
+fn lines_wanted(alloc: Global, given: Given) -> Result<Option<Vec<u8>>, CaseFault> {
+    let Some(want) = by_connection(given, "heard")? else {
+        return Ok(None);
+    };
+    let mut lines = Vec::new(alloc);
+    for (_connection, value) in want.iter() {
+        let heard = bytes_of(alloc, value, "heard")?;
+        lines.extend_from_slice(heard.as_slice())?;
+    }
+    Ok(Some(lines))
+}
+
+fn compare_heard<W: World>(
+    alloc: Global,
+    found: &mut Differences,
+    given: Given,
+    children: &[BookChild<W>],
+) -> Result<(), CaseFault> {
+    let Some(want) = lines_wanted(alloc, given)? else {
+        return Ok(());
+    };
+    let came = lines_heard(alloc, children)?;
+    found.text("heard", &came, &want)?;
+    Ok(())
+}
+
+/// A nursery of children that answer from the world of a text, with these scripts.
+fn told_nursery<T: BookText>(
+    alloc: Global,
+    scripts: Items<ChildScript>,
+) -> BookNursery<TextWorld<T>>
+    ensures { (result.made ≡ 0) × (result.back ≡ []) }
+{
+    BookNursery::new(alloc, scripts)
+}
+
+/// Runs a case over children that answer from the world of a text, and compares what comes as with other children.
+fn run_told<T: BookText>(alloc: Global, given: Given) -> Result<Differences, CaseFault> {
+    let mut setup = Setup::of(alloc, given)?;
+    let clock = clock_of(alloc, given)?;
+    let cases = children_of(alloc, given)?;
+    let scripts = scripts_of(alloc, cases.as_slice())?;
+    let mut nursery = told_nursery::<T>(alloc, scripts);
+    let status = run::<TextWorld<T>, BookNursery<TextWorld<T>>>(
+        alloc,
+        &mut setup,
+        &clock,
+        &mut nursery,
+    );
+    let mut found = Differences::none(alloc);
+    compare_written(alloc, &mut found, given, status, &setup)?;
+    compare_heard::<TextWorld<T>>(alloc, &mut found, given, nursery.children())?;
+    Ok(found)
+}
+
+/// Runs a case over the children of the world that it names, if it names one.
+pub(crate) fn told_case(alloc: Global, given: Given) -> Result<Differences, CaseFault> {
+    let Some(name) = given.case.get("world") else {
+        return Ok(Differences::none(alloc));
+    };
+    match name.as_str() {
+        Some("ant and bee") => run_told::<AntAndBee>(alloc, given),
+        Some(name) => Err(CaseFault::Unnamed(String::from_str(alloc, name)?)),
+        None => Err(CaseFault::Form("world")),
+    }
+}
