@@ -17,8 +17,6 @@ mod rules;
 mod table_rule;
 mod tables;
 mod taking;
-#[cfg(test)]
-mod tests;
 mod words;
 
 pub use reading::read_declaration;

@@ -8,8 +8,6 @@
 mod form;
 mod line;
 mod reading;
-#[cfg(test)]
-mod tests;
 
 pub use line::{Line, LinesFault};
 pub use reading::read_lines;

@@ -12,8 +12,6 @@ mod joining;
 mod judging;
 mod ordering;
 mod showing;
-#[cfg(test)]
-mod tests;
 
 pub use condition::{RowAsked, RowOperand, RowTest};
 pub use joining::join_rows;

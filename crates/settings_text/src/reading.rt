@@ -14,9 +14,6 @@ use sqlite_items::Items;
 use std::alloc::Global;
 use toml::Value;
 
-#[cfg(test)]
-mod tests;
-
 /// The settings that a file's bytes are, with defaults put in and each aggregator with the names of its
 /// members in the order of the settings. A refusal is the first of `Toml`, `Shape`, `NotYet`, `Duplicate`,
 /// `EmptyAggregator`, `MembersDiffer` and `Limit` that there is, at its first entry in the order top,

@@ -20,8 +20,6 @@ mod pattern;
 mod putting;
 mod rows;
 mod same;
-#[cfg(test)]
-mod tests;
 mod text;
 mod truth;
 

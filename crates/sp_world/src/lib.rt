@@ -10,19 +10,13 @@ mod kept_scan;
 mod line;
 mod line_json;
 mod line_reading;
-#[cfg(test)]
-mod line_tests;
 mod operation;
-#[cfg(test)]
-mod page_tests;
 mod parts;
 mod reply_lines;
 mod request_json;
 mod request_lines;
 mod request_members;
 mod request_reading;
-#[cfg(test)]
-mod tests;
 mod told;
 mod untold;
 mod world;

@@ -12,8 +12,6 @@
 
 mod fault;
 mod reading;
-#[cfg(test)]
-mod tests;
 
 pub use fault::SqlFault;
 pub use reading::parse;
