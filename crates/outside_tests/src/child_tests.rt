@@ -3,7 +3,7 @@
 ghost use Rattle.std.specs.Prelude.{◌<◌, ◌≤◌, ◌^◌, length, IfOk};
 ghost use Rattle.sp_world.specs.RequestLines.{IsRequestForm};
 
-use crate::scripted::Scripted;
+use crate::world::Scripted;
 use sp_model::{Asked, Call, CallKey, Connection};
 use sp_outside::{BookChild, BookNursery, Child, ChildScript, Nursery};
 use sp_value::{Memory, Text};
@@ -120,6 +120,7 @@ fn raise<W: World, N: Nursery<W>>(
     connection: &Connection,
 ) -> Result<(), Memory>
     requires { length (N.back nursery.old) ≤ N.made nursery.old }
+    ensures { length (N.back nursery.new) ≤ N.made nursery.new }
 {
     let mut child = nursery.make(alloc, connection)?;
     let _ = child.start();
@@ -149,10 +150,8 @@ fn a_nursery_has_the_children_that_came_back(rt: HostRuntime) -> Result<(), Fail
         fails: Items::from_slice(alloc, &[0])?,
     })?;
     let mut nursery = BookNursery::<Scripted>::new(alloc, scripts);
-    for name in ["c", "d"] {
-        let connection = named(alloc, name)?;
-        raise::<Scripted, BookNursery<Scripted>>(alloc, &mut nursery, &connection)?;
-    }
+    raise::<Scripted, BookNursery<Scripted>>(alloc, &mut nursery, &named(alloc, "c")?)?;
+    raise::<Scripted, BookNursery<Scripted>>(alloc, &mut nursery, &named(alloc, "d")?)?;
     assert_eq!(rt; nursery.children().len(), 2);
     assert_eq!(rt; nursery.children()[0].faults(), 0);
     assert_eq!(rt; nursery.children()[1].faults(), 1);

@@ -5,8 +5,8 @@
 #[cfg(test)]
 mod child_tests;
 #[cfg(test)]
-mod scripted;
-#[cfg(test)]
 mod serving_tests;
 #[cfg(test)]
 mod stream_tests;
+#[cfg(test)]
+mod world;

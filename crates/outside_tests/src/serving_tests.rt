@@ -1,6 +1,6 @@
 // A plugin's loop over a stream that is cut anywhere.
 
-use crate::scripted::Scripted;
+use crate::world::Scripted;
 use plugin_kit::{Served, serve};
 use sp_outside::{Failed, MemorySink, MemorySource, Source};
 use sqlite_items::Items;
