@@ -1,12 +1,11 @@
 -- The book of a text keeps the forms of what lines say.
-use Rattle.std.proofs.Common.{◌≡◌, ℕ, zero, suc, ◌≤◌, ◌<◌, ◌^◌, ◌&&◌, not, Bool, true, false, cond, List, [], ◌∷◌, length, Option, Some, None, refl, sym, ap, subst, lit<, lit≤}
-use Rattle.std.specs.Prelude.{nat_le, nat_lt, slice_get, codes, IsSome}
+use Rattle.std.proofs.Common.{◌≡◌, ℕ, zero, suc, ◌≤◌, ◌&&◌, not, Bool, true, false, cond, List, [], length, Option, Some, None, refl, sym, subst, lit<, lit≤}
+use Rattle.std.specs.Prelude.{nat_le, nat_lt, codes}
 use Rattle.std.proofs.lemmas.Bool.{leb-true, ltb-true}
 use Rattle.serde_json.specs.Data.{Data, null, boolean, number, string, array, object, Items, no_items, item, Members, no_members, depth}
-use Rattle.serde_json.specs.Find.{get, as_object}
+use Rattle.serde_json.specs.Find.{get}
 use Rattle.sp_value.proofs.Computing.{cells}
 use Rattle.sp_value.proofs.JsonLaws.{some_object, depth_of_cell}
-use Rattle.sp_value.specs.Depth as values
 use Rattle.sp_value.specs.Json.{cell_of, pairs_of, has_odd_number}
 use Rattle.sp_value.specs.declared.cell.Cell.{Cell}
 use Rattle.sp_value.specs.declared.cell.Cell as c
