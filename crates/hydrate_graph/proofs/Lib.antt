@@ -5,5 +5,6 @@ pub mod Chain
 pub mod Rows
 pub mod Ready
 pub mod Settling
+pub mod Ordered
 pub mod Results
 pub mod Wanting

@@ -1,5 +1,5 @@
 -- Functions by name and by number.
-use Rattle.std.proofs.Common.{◌≡◌, ◌<◌, ℕ, zero, suc, Bool, true, false, List, [], ◌∷◌, length, Option, Some, if◌then◌else◌, bytes_eq, refl, sym, ap, ◌∙◌, arith}
+use Rattle.std.proofs.Common.{◌≡◌, ℕ, suc, Bool, true, false, List, [], ◌∷◌, Option, Some, if◌then◌else◌, bytes_eq, refl, sym, ap, ◌∙◌}
 use Rattle.std.specs.Prelude.{slice_get}
 use Rattle.sp_model.proofs.Lawful.{found_name}
 use Rattle.sp_model.specs.Hydration.{find_function}
@@ -18,12 +18,3 @@ found_at name (g ∷ gs) = find_if g gs (number_of gs name) (bytes_eq g.name nam
 -- the name of its number is the name, where it is declared
 pub named_at : (name : List ℕ) (fs : List FunctionDecl) (f : FunctionDecl) → find_function name fs ≡ Some f → name_at fs (number_of fs name) ≡ name
 named_at name fs f h = ap name_of (sym (found_at name fs) ∙ h) ∙ found_name name fs f h
-
-pub get_below : {X : Type 0} (xs : List X) (n : ℕ) (x : X) → slice_get xs n ≡ Some x → n < length xs
-get_below [] n x h = cc
-get_below (y ∷ ys) zero x h = omega arith
-get_below (y ∷ ys) (suc n) x h = let l = get_below ys n x h in omega (arith, l)
-
--- a name that is declared has a number of a function
-pub number_below : (name : List ℕ) (fs : List FunctionDecl) (f : FunctionDecl) → find_function name fs ≡ Some f → number_of fs name < length fs
-number_below name fs f h = get_below fs (number_of fs name) f (sym (found_at name fs) ∙ h)

@@ -1,39 +1,16 @@
 -- The results of dependencies, from the last to the first.
-use Rattle.std.proofs.Common.{◌≡◌, ◌<◌, ℕ, zero, suc, Bool, true, false, not, cond, ◌&&◌, List, [], ◌∷◌, length, get_or, drop, map, Option, Some, None, refl, sym, ap, ◌∙◌, arith}
+use Rattle.std.proofs.Common.{◌≡◌, ◌<◌, ℕ, zero, suc, Bool, true, false, not, cond, ◌&&◌, List, [], ◌∷◌, length, get_or, map, Option, Some, None, refl, sym, ap, ◌∙◌, arith}
 use Rattle.std.specs.Prelude.{is_none, is_some, slice_get}
 use Rattle.std.specs.Borrow.{Bor}
 use Rattle.std.specs.Option.{option_copied}
 use Rattle.std.specs.List.{list_all, find}
-use Rattle.std.proofs.Math.Seq.{drop-cons}
-use Rattle.sp_value.specs.declared.cell.Cell.{Cell}
-use Rattle.sp_model.specs.Hydration.{gave, depends_of, put_under, with_result, results_of}
+use Rattle.sp_model.specs.Hydration.{gave, depends_of}
 use Rattle.sp_model.specs.declared.declaration.FunctionDecl.{FunctionDecl}
 use Rattle.sp_model.specs.declared.outcome.Outcome.{Outcome}
-use Rattle.sp_model.specs.declared.outcome.Outcome.TheVariants.{Gave}
-use Rattle.sp_model.specs.declared.outcome.Results.TheVariants.{Given}
 use Rattle.hydrate_graph.specs.Graphs.{Plan, known_in, wants, may_call}
 use Rattle.hydrate_graph.specs.Numbers.{number_of, numbers_of, needs_of, depends_at}
 use Rattle.hydrate_graph.proofs.Chain.{waiting_in}
 use Rattle.hydrate_graph.proofs.Hydrating.{and_left, and_right}
-
--- the number that stands at the place of a name is that name's
-pub need_at : (fs : List FunctionDecl) (names : List (List ℕ)) (needs : List ℕ) (place d : ℕ) (name : List ℕ) → needs ≡ numbers_of fs names → place < length names → name ≡ get_or names place name → get_or needs place d ≡ number_of fs name
-need_at fs names needs place d name are l is = ap (λ ks. get_or ks place d) are ∙ go names place l is
-  where
-    go : (ns : List (List ℕ)) (n : ℕ) → n < length ns → name ≡ get_or ns n name → get_or (numbers_of fs ns) n d ≡ number_of fs name
-    go [] n h e = absurd (omega arith)
-    go (x ∷ xs) zero h e = ap (number_of fs) (sym e)
-    go (x ∷ xs) (suc n) h e = go xs n (omega arith) e
-
-pub result_at : (known : List ℕ → Option Outcome) (names : List (List ℕ)) (m n place : ℕ) (name : List ℕ) (x : Cell) (xs : List (List ℕ × Cell)) → place < length names → n ≡ place → m ≡ suc place → name ≡ get_or names place name
-    → results_of known (drop m names) ≡ Given xs → Some (Gave x) ≡ known name → results_of known (drop n names) ≡ Given (put_under name x xs)
-result_at known names m n place name x xs l n_is m_is is rest gives =
-    ap (λ k. results_of known (drop k names)) n_is
-    ∙ ap (results_of known) (drop-cons names place name l)
-    ∙ ap (λ d. with_result d (known d) (results_of known (drop (suc place) names))) (sym is)
-    ∙ ap (λ k. with_result name (known name) (results_of known (drop k names))) (sym m_is)
-    ∙ ap (λ r. with_result name (known name) r) rest
-    ∙ ap (λ o. with_result name o (Given xs)) (sym gives)
 
 pub all_at : {X : Type 0} (p : X → Bool) (xs : List X) (k : ℕ) (x : X) → list_all p xs ≡ true → k < length xs → x ≡ get_or xs k x → p x ≡ true
 all_at p [] k x all l is = absurd (omega arith)

@@ -1,7 +1,6 @@
 -- Rows by what is known of their functions.
-use Rattle.std.proofs.Common.{◌≡◌, ◌<◌, ◌+◌, ℕ, zero, suc, Bool, true, List, [], ◌∷◌, ◌++◌, length, get_or, drop, Option, Some, None, refl, sym, ap, ◌∙◌, arith, add-one, append_assoc}
+use Rattle.std.proofs.Common.{◌≡◌, ◌<◌, ◌+◌, ℕ, zero, suc, true, List, [], ◌∷◌, ◌++◌, length, get_or, drop, Option, Some, None, refl, sym, ap, ◌∙◌, arith, add-one, append_assoc}
 use Rattle.std.specs.Prelude.{slice_get}
-use Rattle.std.specs.List.{list_all}
 use Rattle.std.proofs.Math.Seq.{drop-cons}
 use Rattle.sp_value.specs.declared.cell.Cell.{Cell}
 use Rattle.sp_model.specs.Hydration.{hydrated_by}
@@ -16,10 +15,10 @@ use Rattle.sp_model.specs.declared.scan.Cause.{Cause}
 use Rattle.hydrate_graph.specs.Ends.{FailsAt, IsWhole}
 use Rattle.hydrate_graph.specs.Following.{by_known, Follows, Completes}
 use Rattle.hydrate_graph.specs.Graphs.{Graph, known, row_so_far}
-use Rattle.hydrate_graph.specs.Numbers.{number_of, name_at, source_number, sources_of}
-use Rattle.sp_model.specs.Rests.{rests, column_rests, rests_some}
+use Rattle.hydrate_graph.specs.Numbers.{number_of, name_at, source_number}
+use Rattle.sp_model.specs.Rests.{rests, rests_some}
 use Rattle.hydrate_graph.proofs.Numbering.{named_at}
-use Rattle.hydrate_graph.proofs.Hydrating.{and_left, and_right, status_is_hydrated, hydrated_is_status}
+use Rattle.hydrate_graph.proofs.Hydrating.{status_is_hydrated, hydrated_is_status}
 use Rattle.hydrate_graph.proofs.Chain.{found_here}
 
 abbrev Gives : Type 0
@@ -41,10 +40,6 @@ source_named fs number (Some name) e h =
 pub value_by : (gives : Gives) (item : Cell) (column : ColumnDecl) (name : List ℕ) (o : Option Outcome) → column.function ≡ Some name → o ≡ gives name → column_of column o ≡ column_value gives item column
 value_by gives item column name o f e = ap (column_of column) (e ∙ sym (ap (source_of gives item) f))
 
-pub source_none : (fs : List FunctionDecl) (name : Option (List ℕ)) → None ≡ source_number fs name → name ≡ None
-source_none fs None e = refl
-source_none fs (Some name) e = absurd (cc)
-
 -- ---- a row
 
 -- cells before a row
@@ -52,11 +47,6 @@ abbrev pub after_cells : List Cell → Option Row → Option Row
 after_cells xs None = None
 after_cells xs (Some (Broken column cause)) = Some (Broken column cause)
 after_cells xs (Some (Whole ys)) = Some (Whole (xs ++ ys))
-
-pub after_none : (row : Option Row) → after_cells [] row ≡ row
-after_none None = refl
-after_none (Some (Broken column cause)) = refl
-after_none (Some (Whole ys)) = refl
 
 pub after_more : (xs : List Cell) (name : List ℕ) (x : Cell) (row : Option Row) → after_cells xs (with_cell name (Some (Gave x)) row) ≡ after_cells (xs ++ x ∷ []) row
 after_more xs name x None = refl
@@ -79,29 +69,9 @@ module _ (gives : Gives) (item : Cell) (columns : List ColumnDecl) (k : ℕ) (co
   row_gives xs x e =
       ap (after_cells xs) (row_here ∙ ap (λ o. with_cell column.name o (row_of gives (drop (k + 1) columns) item)) (sym e)) ∙ after_more xs column.name x (row_of gives (drop (k + 1) columns) item)
 
-  pub row_waits : (xs : List Cell) (row : Option Row) → row ≡ after_cells xs (row_of gives (drop k columns) item) → None ≡ column_value gives item column → row ≡ None
-  row_waits xs row whole e = whole ∙ ap (after_cells xs) (row_here ∙ ap (λ o. with_cell column.name o (row_of gives (drop (k + 1) columns) item)) (sym e))
-
   pub row_fails : (xs : List Cell) (row : Option Row) (why : Cause) → row ≡ after_cells xs (row_of gives (drop k columns) item) → Some (Fails why) ≡ column_value gives item column → FailsAt columns row k why
   row_fails xs row why whole e =
       (column, get_is columns k column l is, whole ∙ ap (after_cells xs) (row_here ∙ ap (λ o. with_cell column.name o (row_of gives (drop (k + 1) columns) item)) (sym e)))
-
-all_at : {X : Type 0} (p : X → Bool) (xs : List X) (k : ℕ) (x : X) → list_all p xs ≡ true → k < length xs → x ≡ get_or xs k x → p x ≡ true
-all_at p [] k x all l is = absurd (omega arith)
-all_at p (y ∷ ys) zero x all l is = rw is (and_left (p y) (list_all p ys) all)
-all_at p (y ∷ ys) (suc k) x all l is = all_at p ys k x (and_right (p y) (list_all p ys) all) (omega arith) is
-
-pub column_rests_at : (fs : List FunctionDecl) (columns : List ColumnDecl) (k : ℕ) (column : ColumnDecl) → list_all (column_rests fs) columns ≡ true → k < length columns → column ≡ get_or columns k column → column_rests fs column ≡ true
-column_rests_at fs columns k column = all_at (column_rests fs) columns k column
-
-pub source_at : (fs : List FunctionDecl) (columns : List ColumnDecl) (sources : List (Option ℕ)) (k : ℕ) (column : ColumnDecl) (source d : Option ℕ) → sources ≡ sources_of fs columns → k < length columns → column ≡ get_or columns k column
-    → source ≡ get_or sources k d → source ≡ source_number fs column.function
-source_at fs columns sources k column source d are l is at = at ∙ ap (λ ss. get_or ss k d) are ∙ go columns k l is
-  where
-    go : (cs : List ColumnDecl) (n : ℕ) → n < length cs → column ≡ get_or cs n column → get_or (sources_of fs cs) n d ≡ source_number fs column.function
-    go [] n h e = absurd (omega arith)
-    go (x ∷ xs) zero h e = ap (λ cl. source_number fs cl.function) (sym e)
-    go (x ∷ xs) (suc n) h e = go xs n (omega arith) e
 
 -- ---- on more
 

@@ -1,4 +1,5 @@
 pub mod Numbers
+pub mod Ordered
 pub mod Following
 pub mod Graphs
 pub mod Plans

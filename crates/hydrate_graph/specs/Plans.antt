@@ -9,6 +9,8 @@ use Rattle.sp_model.specs.declared.outcome.Outcome.{Outcome}
 use Rattle.hydrate_graph.specs.Following.{InOrder}
 use Rattle.hydrate_graph.specs.Graphs.{Plan, settled_by, known_in}
 use Rattle.hydrate_graph.specs.Numbers.{number_of, needs_of, sources_of}
+use Rattle.hydrate_graph.specs.Ordered.{all_depends}
+use Rattle.hydrate_graph.specs.declared.depends.Depends.{Depends}
 use Rattle.sp_model.specs.Rests.{column_rests}
 
 -- a function that is declared has a slot exactly where a column needs it
@@ -23,8 +25,9 @@ AreApart slots = (j k slot : ℕ) → get_or slots j None ≡ Some slot → get_
 abbrev pub AreWithin : List (Option ℕ) → ℕ → Type 0
 AreWithin slots room = (k slot : ℕ) → get_or slots k None ≡ Some slot → slot < room
 
-pub record IsPlan (functions : List FunctionDecl) (columns : List ColumnDecl) (needs : List (List ℕ)) (sources : List (Option ℕ)) (slots : List (Option ℕ)) (room : ℕ) : Type 0 where
+pub record IsPlan (functions : List FunctionDecl) (columns : List ColumnDecl) (needs : List (List ℕ)) (depends : List Depends) (sources : List (Option ℕ)) (slots : List (Option ℕ)) (room : ℕ) : Type 0 where
   pub needs_are : needs ≡ needs_of functions
+  pub depends_are : depends ≡ all_depends functions
   pub sources_are : sources ≡ sources_of functions columns
   pub rest : list_all (column_rests functions) columns ≡ true
   pub few : length functions ≤ 64

@@ -8,6 +8,7 @@
 #![tactic(auto)]
 
 mod causes;
+mod depends;
 mod ends;
 mod graph;
 mod plan;

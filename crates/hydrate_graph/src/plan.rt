@@ -1,4 +1,4 @@
-ghost use Rattle.std.specs.Prelude.{◌≡◌, ◌<◌, ◌≤◌, ℕ, true, not, List, length, get_or, slice_get, Some, None, IfOk, IfSome};
+ghost use Rattle.std.specs.Prelude.{◌≡◌, ◌<◌, ◌≤◌, ℕ, true, not, List, length, get_or, map, slice_get, Some, None, IfOk, IfSome};
 ghost use Rattle.std.specs.Option.{option_copied};
 ghost use Rattle.std.specs.List.{find, list_all};
 ghost use Rattle.sp_model.specs.Calls.{is_wanted};
@@ -13,12 +13,14 @@ ghost use Rattle.sp_model.specs.declared.outcome.Row.TheVariants as rows;
 ghost use Rattle.hydrate_graph.specs.Following.{by_known, InOrder};
 ghost use Rattle.hydrate_graph.specs.Graphs.{settled_by, known_in, wants, may_call};
 ghost use Rattle.hydrate_graph.specs.Plans.{AreApart};
-ghost use Rattle.hydrate_graph.specs.Numbers.{number_of, name_at, source_number, numbers_of, depends_at};
+ghost use Rattle.hydrate_graph.specs.Numbers.{number_of, name_at, source_number, depends_at};
+ghost use Rattle.hydrate_graph.specs.Ordered.{result_of};
 ghost use Rattle.hydrate_graph.specs.Ends.{outcome_read, IsStandOf, IsWhole};
 
+use crate::depends::Depends;
 use crate::ends::{CauseRef, Reading, Stand};
 use sp_model::{ColumnDecl, FunctionDecl, Outcome, Rule, field, is_of_kind};
-use sp_value::{Cell, Cells, Members, Memory, Text, TryCopy};
+use sp_value::{Cell, Cells, Members, Memory, TryCopy};
 use sqlite_items::{Items, at};
 use std::alloc::Global;
 use std::marker::Model;
@@ -31,6 +33,7 @@ pub struct RowPlan {
     pub(crate) rules: Items<Rule>,
     pub(crate) columns: Items<ColumnDecl>,
     pub(crate) needs: Items<Items<u32>>,
+    pub(crate) depends: Items<Depends>,
     pub(crate) sources: Items<Option<u32>>,
     pub(crate) slots: Items<Option<u32>>,
     pub(crate) room: u32,
@@ -44,7 +47,7 @@ impl Model for RowPlan {
 
     ghost view = { λ p. record { functions = p.functions; rules = p.rules; columns = p.columns; slots = p.slots; room = p.room } };
 
-    ghost invariant = { λ p. IsPlan p.functions p.columns p.needs p.sources p.slots p.room };
+    ghost invariant = { λ p. IsPlan p.functions p.columns p.needs p.depends p.sources p.slots p.room };
 }
 
 /// Whether a function gave a result.
@@ -285,29 +288,26 @@ impl RowPlan {
         }
     }
 
-    /// The results of these functions under their names.
-    fn results(
+    /// The results of these functions, which gave one each.
+    #[tactic(auto, using(crate::proofs::Results::all_at))]
+    fn all_given(
         &self,
         alloc: Global,
         outcomes: &[Option<Outcome>],
-        names: &[Text],
-        needs: &[u32],
-    ) -> Result<Members, Memory>
-        requires needs { needs.now ≡ numbers_of self.now.functions names.now }
-        requires gave { list_all (λ d. gave (known_in self.now.functions (settled_by self.now.slots outcomes.now) d)) names.now ≡ true }
-        ensures { IfOk result (λ results. results_of (known_in self.now.functions (settled_by self.now.slots outcomes.now)) names.now ≡ Given results) }
+        functions: &[u32],
+    ) -> Result<Cells, Memory>
+        requires { list_all (λ k. gave (get_or (settled_by self.now.slots outcomes.now) k None)) functions.now ≡ true }
+        ensures { IfOk result (λ values. values ≡ map (λ k. result_of (get_or (settled_by self.now.slots outcomes.now) k None)) functions.now) }
     {
-        let mut results = Members::new(alloc);
-        for index in 0..names.len() {
-            let place = names.len() - 1 - index;
-            let name = &names[place];
-            let value = self.given(outcomes, needs[place]);
-            results = results.put_under(alloc, name, value)?;
+        let mut values = Items::new(alloc);
+        for function in functions {
+            let value = self.given(outcomes, *function);
+            values.push(value.copy(alloc)?)?;
         }
-        Ok(results)
+        Ok(values)
     }
 
-    /// The results of the dependencies of a function that may be called.
+    /// The results of the dependencies of a function that may be called, under their names.
     pub(crate) fn results_at(
         &self,
         alloc: Global,
@@ -317,12 +317,11 @@ impl RowPlan {
         requires { may_call self.now (settled_by self.now.slots outcomes.now) function ≡ true }
         ensures { IfOk result (λ results. results_of (known_in self.now.functions (settled_by self.now.slots outcomes.now)) (depends_at self.now.functions function) ≡ Given results) }
     {
-        let (Some(decl), Some(needs)) = (
-            self.functions.get(function as usize),
-            self.needs.get(function as usize),
-        ) else {
+        let Some(depends) = self.depends.get(function as usize) else {
             return Ok(Members::new(alloc));
         };
-        self.results(alloc, outcomes, decl.depends.as_slice(), needs.as_slice())
+        let values = self.all_given(alloc, outcomes, depends.numbers.as_slice())?;
+        let names = depends.names.copy(alloc)?;
+        Ok(Members::from_parts(names, values))
     }
 }

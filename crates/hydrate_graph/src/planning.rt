@@ -9,6 +9,7 @@ ghost use Rattle.hydrate_graph.specs.Graphs.{wants, rules_in};
 ghost use Rattle.hydrate_graph.specs.Numbers.{number_of, numbers_of, needs_of, source_number, sources_of};
 ghost use Rattle.hydrate_graph.specs.Planning.{some_flag, reach_step, reach_in, source_flag, wanted_flags, slots_from, room_from};
 
+use crate::depends::all_depends;
 use crate::plan::RowPlan;
 use retry_ignore::rule_of;
 use sp_model::{ColumnDecl, FunctionDecl, Rule, TableDecl, columns_named};
@@ -29,7 +30,7 @@ fn number_of(functions: &[FunctionDecl], name: &Text) -> u32
     functions.len() as u32
 }
 
-fn numbers_of(
+pub(crate) fn numbers_of(
     alloc: Global,
     functions: &[FunctionDecl],
     names: &[Text],
@@ -241,11 +242,13 @@ impl RowPlan {
         let slots = slots_of(alloc, flags.as_slice())?;
         let room = room_of(flags.as_slice());
         let rules = rules_in(alloc, table, functions.as_slice())?;
+        let depends = all_depends(alloc, functions.as_slice())?;
         Ok(RowPlan {
             functions,
             rules,
             columns,
             needs,
+            depends,
             sources,
             slots,
             room,

@@ -3,6 +3,7 @@ use Rattle.sp_model.specs.RowOf.{has_name, columns_named}
 use Rattle.sp_model.specs.declared.declaration.ColumnDecl.{ColumnDecl}
 use Rattle.hydrate_graph.specs.Graphs.{rules_in}
 use Rattle.hydrate_graph.specs.Numbers.{needs_of, sources_of}
+use Rattle.hydrate_graph.specs.Ordered.{all_depends}
 use Rattle.hydrate_graph.specs.Planning.{wanted_flags, slots_from, room_from}
 use Rattle.hydrate_graph.proofs.Wanting.{filter_count, slot_apart, slot_within, slot_count, slot_wanted, flag_count}
 use Rattle.hydrate_graph.proofs.plan.RowPlan.of.Goals as goal
@@ -20,6 +21,7 @@ invariant_of-result c =
     let room : c.room_of-room.result ≡ room_from 0 c.in_ok-flags.flags = c.room_of-room.ensures ∙ ap (room_from 0) c.as_slice-10.ensures in
     record {
       needs_are = c.in_ok-needs.ensures ∙ ap needs_of c.as_slice-3.ensures;
+      depends_are = c.in_ok-depends.ensures ∙ ap all_depends c.as_slice-12.ensures;
       sources_are = sources;
       rest = rw (functions, columns) c.requires.rest;
       few = few;
