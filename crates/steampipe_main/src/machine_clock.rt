@@ -14,7 +14,7 @@ pub(crate) struct MachineClock<R: time::Clock + Drop> {
 const LAST: u64 = 1 << 62;
 
 /// The milliseconds since an instant, 0 where the clock can't be read.
-fn passed_millis<R: time::Clock>(rt: &R, start: Instant) -> u64
+pub(crate) fn passed_millis<R: time::Clock>(rt: &R, start: Instant) -> u64
     ensures { result ≤ 2 ^ 62 }
 {
     match start.elapsed(rt) {
@@ -35,6 +35,11 @@ impl<R: time::Clock + Drop> MachineClock<R> {
     pub(crate) fn new(rt: R) -> MachineClock<R> {
         let start = Instant::now(&rt).ok();
         MachineClock { rt, start }
+    }
+
+    /// The instant at which it started, none where the clock can't be read.
+    pub(crate) fn start(&self) -> Option<Instant> {
+        self.start
     }
 
     /// The milliseconds since the start, 0 where the clock can't be read.

@@ -3,7 +3,7 @@ ghost use Rattle.std.specs.List.{position_or_len};
 ghost use Rattle.steampipe_main.specs.Lines.{is_feed, IsFirstLine, GivesLine, ReadsMore};
 
 use std::alloc::{AllocError, Global};
-use std::io::{ErrorKind, Read};
+use std::io::{self, ErrorKind, Read};
 use std::marker::Model;
 
 const LIMIT: usize = 1_048_576;
@@ -11,10 +11,18 @@ const LIMIT: usize = 1_048_576;
 const PIECE: usize = 4096;
 
 /// Why there is no line: the output ended, failed, or passed the limit of a line; or memory is wanting.
-#[derive(Debug, PartialEq, Eq, Clone, Copy)]
+#[derive(Debug, Drop)]
 pub(crate) enum LineEnd {
-    Fault,
+    Fault(io::Error),
     Memory,
+}
+
+fn ended() -> LineEnd {
+    LineEnd::Fault(io::Error::new(ErrorKind::UnexpectedEof, "its output has ended"))
+}
+
+fn too_long() -> LineEnd {
+    LineEnd::Fault(io::Error::new(ErrorKind::InvalidData, "a line of more than 1048576 bytes"))
 }
 
 impl From<AllocError> for LineEnd {
@@ -82,15 +90,15 @@ impl PendingLines {
             }
             searched = self.waiting().len();
             if searched > LIMIT {
-                return Err(LineEnd::Fault);
+                return Err(too_long());
             }
             self.read_more(from)?;
         }
-        Err(LineEnd::Fault)
+        Err(ended())
     }
 
     /// The bytes that are not given yet.
-    fn waiting(&self) -> &[u8]
+    pub(crate) fn waiting(&self) -> &[u8]
         ensures { result.now ≡ self.now }
     {
         &self.bytes[self.start..]
@@ -116,7 +124,7 @@ impl PendingLines {
         ensures kept { OnErr result (self.new ≡ self.old) }
     {
         if end > LIMIT {
-            return Err(LineEnd::Fault);
+            return Err(too_long());
         }
         let line = self.bytes[self.start..self.start + end].to_vec(alloc)?;
         self.start += end + 1;
@@ -140,13 +148,13 @@ impl PendingLines {
         self.bytes.reserve(PIECE)?;
         let mut piece = [0u8; PIECE];
         match from.read(&mut piece) {
-            Ok(0) => Err(LineEnd::Fault),
+            Ok(0) => Err(ended()),
             Ok(count) => {
                 self.bytes.extend_from_slice(&piece[..count])?;
                 Ok(())
             }
             Err(error) if error.kind() == ErrorKind::Interrupted => Ok(()),
-            Err(_) => Err(LineEnd::Fault),
+            Err(error) => Err(LineEnd::Fault(error)),
         }
     }
 }

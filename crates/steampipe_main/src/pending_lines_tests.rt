@@ -41,7 +41,7 @@ fn lines_of(alloc: Global, text: &[u8], size: usize) -> Result<Vec<u8>, Fail> {
                 lines.push(b'|')?;
             }
             Err(LineEnd::Memory) => {}
-            Err(LineEnd::Fault) => return Ok(lines),
+            Err(LineEnd::Fault(_)) => return Ok(lines),
         }
     }
     Err(Fail::from("no fault"))

@@ -1,59 +1,42 @@
-ghost use Rattle.std.specs.Prelude.{◌≡◌, ◌≤◌, ◌++◌, ◌∷◌, [], false, OnOk};
-ghost use Rattle.std.specs.Io.KnownBytes.{Appends};
+ghost use Rattle.std.specs.Prelude.{◌≡◌, ◌≤◌, [], false};
 ghost use Rattle.sp_outside.specs.Causes.{up};
 
+use crate::child_log::ChildLog;
 use crate::pending_lines::{LineEnd, PendingLines};
+use crate::program::{Program, Streams, send_line, start_program};
 use sp_outside::{Child, ChildEnd, Failed};
 use sp_value::Text;
 use sp_world::Untold;
-use std::alloc::{AllocError, Global};
-use std::io::{self, Write};
+use std::alloc::Global;
 use std::marker::Model;
-use std::process::{self, Command, OpenProcess, Processes, Stdio};
+use std::process::Processes;
 use std::snapshot::Snapshot;
 use std::thread;
 use std::time::{Clock, Duration};
 
-/// How often a program that was asked to end is looked at, 10 milliseconds apart, before it is killed.
+/// How often programs that were asked to end are looked at before they are killed.
 const LOOKS: u32 = 50;
 
+/// The milliseconds between two looks.
+const PAUSE: u64 = 10;
+
 /// A program whose standard input and output are pipes. It has this program's working directory and environment, and its standard error is
-/// discarded. Contracts see its counts and its last line.
+/// discarded, or goes into its log. Contracts see its counts and its last line.
 #[derive(Drop)]
 pub(crate) struct PipedChild<R: Processes + Clock + Copy> {
     rt: R,
     alloc: Global,
     connection: Text,
     words: Vec<String>,
-    running: Option<Running<R>>,
+    streams: Option<Streams<R>>,
+    program: Option<Program<R>>,
+    log: ChildLog<R>,
     pending: PendingLines,
     runs: bool,
     faults: u64,
     sent: u64,
     given: u64,
     last: Option<Snapshot<Vec<u8>>>,
-}
-
-/// A program that runs. It is ended where it is let go.
-struct Running<R: Processes + Clock + Copy> {
-    rt: R,
-    child: process::Child<R::Started>,
-    input: <<R as Processes>::Started as OpenProcess>::Stdin,
-    output: <<R as Processes>::Started as OpenProcess>::Stdout,
-}
-
-impl<R: Processes + Clock + Copy> Drop for Running<R> {
-    fn drop(self) {
-        let Running {
-            rt,
-            child,
-            input,
-            output,
-        } = self;
-        drop(input);
-        drop(output);
-        end_program(&rt, child);
-    }
 }
 
 impl<R: Processes + Clock + Copy> Model for PipedChild<R> {
@@ -66,7 +49,13 @@ impl<R: Processes + Clock + Copy> Model for PipedChild<R> {
 
 impl<R: Processes + Clock + Copy> PipedChild<R> {
     /// The child of a connection, not started, of a program and its arguments.
-    pub(crate) fn new(rt: R, alloc: Global, connection: Text, words: Vec<String>) -> PipedChild<R>
+    pub(crate) fn new(
+        rt: R,
+        alloc: Global,
+        connection: Text,
+        words: Vec<String>,
+        log: ChildLog<R>,
+    ) -> PipedChild<R>
         ensures { result ≡ record { connection = connection; last = []; faulted = 0; sends = 0; gives = 0; runs = false } }
     {
         PipedChild {
@@ -74,7 +63,9 @@ impl<R: Processes + Clock + Copy> PipedChild<R> {
             alloc,
             connection,
             words,
-            running: None,
+            streams: None,
+            program: None,
+            log,
             pending: PendingLines::new(alloc),
             runs: false,
             faults: 0,
@@ -84,11 +75,81 @@ impl<R: Processes + Clock + Copy> PipedChild<R> {
         }
     }
 
-    /// Ends the program, so that it sends and gives nothing until the next start.
-    pub(crate) fn stop(&mut self)
+    /// Closes the program's input and output, so that it can end by itself. It sends and gives nothing until the next start.
+    pub(crate) fn let_end(&mut self)
         ensures { self.new ≡ self.old }
     {
-        self.running = None;
+        self.streams = None;
+    }
+
+    /// Whether no program runs. One that has ended is waited for.
+    fn has_ended(&mut self) -> bool
+        ensures { self.new ≡ self.old }
+    {
+        let Some(program) = &mut self.program else {
+            return true;
+        };
+        match program.look() {
+            Ok(None) => return false,
+            Ok(Some(status)) => self.log.ended(status),
+            Err(_) => {}
+        }
+        self.program = None;
+        true
+    }
+
+    /// Kills the program where one runs, and waits for it.
+    fn kill(&mut self)
+        ensures { self.new ≡ self.old }
+    {
+        if let Some(program) = &mut self.program {
+            self.log.runs_on();
+            if let Ok(status) = program.kill() {
+                self.log.ended(status);
+            }
+        }
+        self.program = None;
+    }
+
+    /// Ends the program, so that another can be started.
+    fn stop(&mut self)
+        ensures { self.new ≡ self.old }
+    {
+        self.let_end();
+        for _ in 0..LOOKS {
+            if self.has_ended() {
+                return;
+            }
+            thread::sleep(&self.rt, Duration::from_millis(PAUSE));
+        }
+        self.kill();
+    }
+}
+
+/// Waits for the programs of these children together, half a second in all, and kills those that are left.
+pub(crate) fn end_all<R: Processes + Clock + Copy>(rt: &R, children: &mut [PipedChild<R>]) {
+    for _ in 0..LOOKS {
+        if have_ended(children) {
+            return;
+        }
+        thread::sleep(rt, Duration::from_millis(PAUSE));
+    }
+    kill_all(children);
+}
+
+/// Whether none of these children's programs runs.
+fn have_ended<R: Processes + Clock + Copy>(children: &mut [PipedChild<R>]) -> bool {
+    let mut all = true;
+    for child in children.iter_mut() {
+        all = child.has_ended() && all;
+    }
+    all
+}
+
+/// Kills those of these children's programs that run.
+fn kill_all<R: Processes + Clock + Copy>(children: &mut [PipedChild<R>]) {
+    for child in children.iter_mut() {
+        child.kill();
     }
 }
 
@@ -99,62 +160,6 @@ fn count(faults: &mut u64) -> Failed
 {
     *faults = faults.saturating_add(1);
     Failed
-}
-
-/// Starts a program by its words, the first of which names it.
-fn start_program<R: Processes + Clock + Copy>(
-    rt: R,
-    alloc: Global,
-    words: &[String],
-) -> io::Result<Option<Running<R>>> {
-    let Some((program, arguments)) = words.split_first() else {
-        return Ok(None);
-    };
-    let mut command = Command::new(alloc, program.as_str())?;
-    for argument in arguments {
-        command.arg(argument.as_str())?;
-    }
-    command.stdin(Stdio::piped());
-    command.stdout(Stdio::piped());
-    command.stderr(Stdio::null());
-    let mut child = command.spawn(&rt)?;
-    match (child.stdin.take(), child.stdout.take()) {
-        (Some(input), Some(output)) => Ok(Some(Running {
-            rt,
-            child,
-            input,
-            output,
-        })),
-        _ => {
-            end_program(&rt, child);
-            Ok(None)
-        }
-    }
-}
-
-/// Gives a program whose input is closed a short while to end by itself, and kills it where it doesn't. It is waited for in any case.
-fn end_program<R: Clock, P: OpenProcess + Drop>(rt: &R, child: process::Child<P>) {
-    let mut child = child;
-    for _ in 0..LOOKS {
-        if let Ok(Some(_)) = child.try_wait() {
-            return;
-        }
-        thread::sleep(rt, Duration::from_millis(10));
-    }
-    if child.kill().is_ok() {
-        let _ = child.wait();
-    }
-}
-
-/// Writes a line and its line feed.
-fn send_line<K: Write>(alloc: Global, input: &mut K, line: &[u8]) -> io::Result<()>
-    ensures { OnOk result (Appends (K.contents input.old) (K.contents input.new) (line.now ++ 10 ∷ [])) }
-{
-    let mut whole = Vec::with_capacity(alloc, line.len().saturating_add(1))?;
-    whole.extend_from_slice(line)?;
-    whole.push(b'\n').map_err(AllocError::from)?;
-    input.write_all(whole.as_slice())?;
-    input.flush()
 }
 
 impl<R: Processes + Clock + Copy> Child<Untold> for PipedChild<R> {
@@ -177,13 +182,17 @@ impl<R: Processes + Clock + Copy> Child<Untold> for PipedChild<R> {
     fn start(&mut self) -> Result<(), Failed> {
         self.pending.clear();
         self.stop();
-        match start_program(self.rt, self.alloc, self.words.as_slice()) {
-            Ok(Some(running)) => {
-                self.running = Some(running);
+        let errors = self.log.standard_error();
+        match start_program(&self.rt, self.alloc, self.words.as_slice(), errors) {
+            Ok((program, streams)) => {
+                self.log.started(self.words.as_slice(), program.number());
+                self.program = Some(program);
+                self.streams = Some(streams);
                 self.runs = true;
                 Ok(())
             }
-            _ => {
+            Err(error) => {
+                self.log.not_started(self.words.as_slice(), &error);
                 self.runs = false;
                 Err(count(&mut self.faults))
             }
@@ -193,9 +202,10 @@ impl<R: Processes + Clock + Copy> Child<Untold> for PipedChild<R> {
     fn send(&mut self, line: &[u8]) -> Result<(), Failed> {
         self.sent = self.sent.saturating_add(1);
         if self.runs {
-            if let Some(running) = &mut self.running {
-                if send_line(self.alloc, &mut running.input, line).is_ok() {
-                    return Ok(());
+            if let Some(streams) = &mut self.streams {
+                match send_line(self.alloc, &mut streams.input, line) {
+                    Ok(()) => return Ok(()),
+                    Err(error) => self.log.not_sent(&error),
                 }
             }
         }
@@ -204,15 +214,18 @@ impl<R: Processes + Clock + Copy> Child<Untold> for PipedChild<R> {
 
     fn receive(&mut self, alloc: Global) -> Result<Vec<u8>, ChildEnd> {
         if self.runs {
-            if let Some(running) = &mut self.running {
-                match self.pending.next_line(alloc, &mut running.output) {
+            if let Some(streams) = &mut self.streams {
+                match self.pending.next_line(alloc, &mut streams.output) {
                     Ok(line) => {
                         self.given = self.given.saturating_add(1);
                         self.last = Some(Snapshot::of(&line));
+                        self.log.gave(&line);
                         return Ok(line);
                     }
                     Err(LineEnd::Memory) => return Err(ChildEnd::Memory),
-                    Err(LineEnd::Fault) => {}
+                    Err(LineEnd::Fault(error)) => {
+                        self.log.not_received(&error, self.pending.waiting());
+                    }
                 }
             }
         }
