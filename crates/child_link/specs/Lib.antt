@@ -1,0 +1,9 @@
+pub mod Arrivals
+pub mod Arrived
+pub mod Bag
+pub mod Holds
+pub mod Ledger
+pub mod Looked
+pub mod Open
+pub mod Reads
+pub mod Sent
