@@ -1,0 +1,4 @@
+pub mod Advancing
+pub mod Courses
+pub mod Going
+pub mod Stops
