@@ -7,7 +7,8 @@
 mod alike;
 mod cache;
 mod covering;
-//mod serving;
+mod placing;
+mod serving;
 
 pub use cache::Cache;
-//pub use serving::rows_of;
+pub use serving::rows_of;

@@ -1,4 +1,4 @@
-use Rattle.std.proofs.Common.{◌≡◌, ◌∙◌}
+use Rattle.std.proofs.Common.{◌∙◌}
 use Rattle.query_cache.proofs.Parts.{any_after, any_before}
 use Rattle.query_cache.proofs.alike.place_from.Goals as goal
 

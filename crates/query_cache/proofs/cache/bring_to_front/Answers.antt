@@ -1,4 +1,4 @@
-use Rattle.std.proofs.Common.{◌≡◌, map, ap, ◌∷◌, ◌∙◌}
+use Rattle.std.proofs.Common.{map, ap, ◌∷◌, ◌∙◌}
 use Rattle.std.specs.Arc.{arc_value}
 use Rattle.query_cache.proofs.Fronts.{moved}
 use Rattle.query_cache.proofs.cache.bring_to_front.Goals as goal

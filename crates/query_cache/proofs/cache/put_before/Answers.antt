@@ -1,4 +1,4 @@
-use Rattle.std.proofs.Common.{◌≡◌, map, take, ◌∷◌, sym, ap, ◌∙◌}
+use Rattle.std.proofs.Common.{map, ◌∷◌, sym, ap, ◌∙◌}
 use Rattle.std.specs.Arc.{arc_value}
 use Rattle.std.specs.List.{take-map}
 use Rattle.query_cache.proofs.cache.put_before.Goals as goal
