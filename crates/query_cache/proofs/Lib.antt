@@ -1,0 +1,5 @@
+pub mod Parts
+pub mod Fronts
+pub mod Cuts
+pub mod Renaming
+pub mod Own
