@@ -1,10 +1,10 @@
 -- The scans that a source asks for.
 use Rattle.std.specs.Prelude.{ℕ, Bool, ◌&&◌, List, [], ◌∷◌, ◌++◌, map, Option, Some, None, option_map, if◌then◌else◌, bytes_eq}
 use Rattle.std.specs.Arc.{arc_value}
-use Rattle.std.specs.List.{list_any, position_or_len}
+use Rattle.std.specs.List.{list_any, flat_map, position_or_len}
 use Rattle.std.specs.Cmp.Lexicographic.{pointwise}
 use Rattle.sp_value.specs.declared.cell.Cell.{Cell}
-use Rattle.sp_model.specs.Units.{ScanUnit, flat_map, units}
+use Rattle.sp_model.specs.Units.{ScanUnit, units}
 use Rattle.sp_model.specs.declared.call.Condition.{Condition}
 use Rattle.sp_model.specs.declared.scan.ScanRequest.{ScanRequest}
 use Rattle.row_algebra.specs.RowTruth.{cell_at}

@@ -1,11 +1,13 @@
 // What one left row asks for.
 
-ghost use Rattle.std.specs.Prelude.{◌≡◌, [], ◌++◌, map, option_map, option_to_list, IfOk, OnOk};
-ghost use Rattle.std.specs.List.{list_all, filter_map};
+ghost use Rattle.std.specs.Prelude.{◌≡◌, [], ◌∷◌, ◌++◌, map, option_map, option_to_list, IfOk, OnOk};
+ghost use Rattle.std.specs.List.{list_all, flat_map};
 ghost use Rattle.sp_value.specs.declared.cell.Cell as Cell;
 ghost use Rattle.sp_model.specs.Conditions.{is_scalar};
-ghost use Rattle.sp_model.specs.Units.{same_scalar, agrees, all_agree, unit_of_sent, with_value, flat_map};
-ghost use Rattle.source_scans.specs.Asking.{operand_at, condition_at, unit_scan};
+ghost use Rattle.sp_model.specs.Units.{same_scalar, agrees, all_agree, unit_of_sent, with_value};
+ghost use Rattle.source_scans.specs.Asking.{operand_at, condition_at, unit_scan, units_at};
+ghost use Rattle.source_scans.specs.Collecting.{with_fan, scans_under, scans_at};
+ghost use Rattle.source_scans.specs.Planned.{IsPlanned};
 
 use crate::source::{Fan, PlanCondition, PlanOperand, PlanSource};
 use crate::unit_scan::UnitScan;
@@ -146,4 +148,82 @@ fn conditions_with(
     };
     push_conditions(alloc, &mut found, left, conditions)?;
     Ok(found)
+}
+
+/// Puts a scan for each value of the fan at the end.
+fn push_fan(
+    alloc: Global,
+    units: &mut Items<UnitScan>,
+    left: &[Cell],
+    connection: &Text,
+    fan: &Fan,
+    conditions: &[PlanCondition],
+) -> Result<(), Memory>
+    ensures { OnOk result (units.new ≡ units.old ++ scans_under connection.now (map (with_value fan.now.column (map (condition_at left.now) conditions.now)) fan.now.values)) }
+{
+    for value in fan.values.as_slice() {
+        let conditions = conditions_with(alloc, left, &fan.column, value, conditions)?;
+        push_unit(alloc, units, connection, conditions.as_slice())?;
+    }
+    Ok(())
+}
+
+/// Puts the scan without a fan at the end.
+fn push_alone(
+    alloc: Global,
+    units: &mut Items<UnitScan>,
+    left: &[Cell],
+    connection: &Text,
+    conditions: &[PlanCondition],
+) -> Result<(), Memory>
+    ensures { OnOk result (units.new ≡ units.old ++ scans_under connection.now ((map (condition_at left.now) conditions.now) ∷ [])) }
+{
+    let mut found = Items::new(alloc);
+    push_conditions(alloc, &mut found, left, conditions)?;
+    push_unit(alloc, units, connection, found.as_slice())
+}
+
+/// Puts the scans of a connection at the end.
+fn push_scans(
+    alloc: Global,
+    units: &mut Items<UnitScan>,
+    left: &[Cell],
+    connection: &Text,
+    source: &PlanSource,
+) -> Result<(), Memory>
+    ensures { OnOk result (units.new ≡ units.old ++ scans_at source.now left.now connection.now) }
+{
+    let conditions = source.conditions.as_slice();
+    match &source.fan {
+        Some(fan) => push_fan(alloc, units, left, connection, fan, conditions),
+        None => push_alone(alloc, units, left, connection, conditions),
+    }
+}
+
+fn all_scans(
+    alloc: Global,
+    source: &PlanSource,
+    left: &[Cell],
+) -> Result<Items<UnitScan>, Memory>
+    ensures { IfOk result (λ units. units ≡ flat_map (scans_at source.now left.now) source.now.connections) }
+{
+    let mut units = Items::new(alloc);
+    for connection in source.connections.as_slice() {
+        push_scans(alloc, &mut units, left, connection, source)?;
+    }
+    Ok(units)
+}
+
+/// The scans that a left row asks for.
+#[tactic(auto, using(crate::proofs::RowUnits::scans_are_units))]
+pub(crate) fn units_at(
+    alloc: Global,
+    source: &PlanSource,
+    left: &[Cell],
+) -> Result<Items<UnitScan>, Memory>
+    requires { IsPlanned source.now }
+    ensures { IfOk result (λ units. units ≡ units_at source.now left.now) }
+{
+    let units = all_scans(alloc, source, left)?;
+    Ok(units)
 }
