@@ -1,8 +1,8 @@
 -- Sources as a plan has them, and the requests that are made of them.
-use Rattle.std.specs.Prelude.{◌≡◌, ℕ, Bool, true, List, [], ◌∷◌, map, Option, Some, None}
+use Rattle.std.specs.Prelude.{◌≡◌, ℕ, true, List, [], ◌∷◌, map, Option, Some, None, option_map}
 use Rattle.std.specs.Arc.{arc_value}
 use Rattle.std.specs.List.{list_all}
-use Rattle.sp_model.specs.Keys.{is_sent, equals, is_met}
+use Rattle.sp_model.specs.Keys.{is_sent, equals, with_equals, is_met}
 use Rattle.sp_model.specs.Names.{has_name}
 use Rattle.sp_model.specs.Requests.{IsRequestOf, keys_for, subset_for}
 use Rattle.sp_model.specs.RowOf.{names_of_columns, columns_named}
@@ -29,6 +29,9 @@ abbrev pub IsFan : List KeyDecl → List (List ℕ) → Option Fan → Type 0
 IsFan keys columns None = Unit {0}
 IsFan keys columns (Some fan) = IsPlannedFan keys columns fan
 
+abbrev pub fan_column : Option Fan → Option (List ℕ)
+fan_column fan = option_map (λ f. f.column) fan
+
 -- the keys are those of the access, the columns are the table's, in its order, and the conditions are those that are sent, on columns that are asked for
 pub record IsPlanned (s : PlanSource) : Type 0 where
   pub keys : keys_for (arc_value s.table) s.access ≡ Some s.keys
@@ -37,6 +40,8 @@ pub record IsPlanned (s : PlanSource) : Type 0 where
   pub sent : list_all (is_sent s.keys) (conditions_of s.conditions) ≡ true
   pub named : list_all (λ c. has_name s.columns c.column) (conditions_of s.conditions) ≡ true
   pub fan : IsFan s.keys s.columns s.fan
+  -- the keys that are required have a condition
+  pub met : is_met s.keys (with_equals (fan_column s.fan) (conditions_of s.conditions)) ≡ true
 
 abbrev pub unlimited : ScanRequest → ScanRequest
 unlimited r = record r { limit = None }
@@ -45,3 +50,4 @@ unlimited r = record r { limit = None }
 pub record IsMadeBy (s : PlanSource) (r : ScanRequest) : Type 0 where
   pub request : IsRequestOf (arc_value s.table) (unlimited r)
   pub connection : has_name s.connections r.connection ≡ true
+  pub met : is_met s.keys r.conditions ≡ true

@@ -61,6 +61,7 @@ impl PlanSource {
         requires planned { IsPlanned self.now }
         ensures requests { IfOk result (λ s. s.requests ≡ requests_of self.now left.now) }
         ensures picks { IfOk result (λ s. s.picks ≡ picks_of self.now left.now) }
+        ensures made { IfOk result (λ s. All (IsMadeBy self.now) s.requests) }
     {
         let mut found = IndexSet::new(alloc);
         let picks = picks_of(alloc, &mut found, self, left.as_slice())?;
