@@ -1,0 +1,4 @@
+pub mod SameValues
+pub mod RowUnits
+pub mod Places
+pub mod Made

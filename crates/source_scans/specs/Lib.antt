@@ -1,0 +1,5 @@
+pub mod Telling
+pub mod Asking
+pub mod SameUnits
+pub mod Planned
+pub mod Collecting
