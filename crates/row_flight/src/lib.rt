@@ -9,10 +9,14 @@
 
 mod attempt;
 mod attempts;
+mod flight;
 mod frame;
 mod row;
 
 pub use attempt::Attempt;
 pub use attempts::Attempts;
+pub use flight::Flight;
 pub use frame::{CallFrame, JobList, Taken, Wanted};
 pub use row::RowCalls;
+mod laws;
+pub use laws::flight_goes_on;
