@@ -1,0 +1,6 @@
+mod Beginning
+pub mod Pooling
+pub mod Naming
+pub mod Given
+pub mod Going
+pub mod Heard

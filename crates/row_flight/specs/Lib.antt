@@ -1,0 +1,6 @@
+pub mod Attempts
+pub mod Rows
+pub mod Flying
+pub mod Pooled
+pub mod Hearing
+pub mod Laws
