@@ -1,0 +1,5 @@
+mod Fields
+mod Growing
+mod JsonRows
+mod Rests
+mod Texts

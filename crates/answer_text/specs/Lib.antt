@@ -1,0 +1,9 @@
+pub mod Blocks
+pub mod Columns
+pub mod Csv
+pub mod Errors
+pub mod JsonLines
+pub mod Lines
+pub mod Notes
+pub mod Spelled
+pub mod Table
