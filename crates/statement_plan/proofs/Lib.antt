@@ -1,1 +1,2 @@
 pub mod ConjunctLaws
+pub mod ReadLaws

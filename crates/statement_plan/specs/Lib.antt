@@ -1,1 +1,3 @@
 pub mod Conjuncts
+pub mod Columns
+pub mod Reading

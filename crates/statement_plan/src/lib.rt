@@ -5,5 +5,8 @@
 //! of a source stands in `specs/Reading.antt`.
 #![tactic(auto)]
 
+mod columns;
 mod conjuncts;
+mod layout;
+mod reading;
 
