@@ -40,7 +40,7 @@ fn push_asked(columns: &mut Items<Column>, asked: &BoundAsked) -> Result<(), Mem
 
 #[cycle(reads)]
 #[tactic(auto, using(crate::proofs::ReadLaws::laws))]
-fn push_columns(columns: &mut Items<Column>, condition: &BoundExpr) -> Result<(), Memory>
+pub(crate) fn push_columns(columns: &mut Items<Column>, condition: &BoundExpr) -> Result<(), Memory>
     ensures { OnOk result (columns.new ≡ columns.old ++ columns_of condition.now) }
 {
     match condition {

@@ -8,5 +8,6 @@
 mod columns;
 mod conjuncts;
 mod layout;
+mod placing;
 mod reading;
 
