@@ -2,3 +2,4 @@ pub mod SameValues
 pub mod RowUnits
 pub mod Places
 pub mod Made
+pub mod EachValue

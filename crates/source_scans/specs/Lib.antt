@@ -1,4 +1,5 @@
 pub mod Telling
+pub mod Distinct
 pub mod Asking
 pub mod SameUnits
 pub mod Planned

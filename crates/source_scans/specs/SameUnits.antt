@@ -7,6 +7,8 @@ use Rattle.std.specs.Hash.{Alike, and-Alike, on_Alike, same_Alike, items_Alike}
 use Rattle.sp_value.specs.declared.cell.Cell.TheViews.{out-Cell}
 use Rattle.sp_model.specs.Conditions.{value_rank, operator_rank}
 use Rattle.source_scans.specs.Asking.{same_unit}
+use Rattle.source_scans.specs.Distinct.{same_scalar_value}
+use Rattle.source_scans.specs.declared.distinct.Scalar.{Scalar}
 use Rattle.source_scans.specs.declared.unit_scan.UnitScan.{UnitScan}
 use Rattle.source_scans.specs.Telling.{number_of, text_of, same_value, value_writes, same_sent, sent_writes}
 
@@ -32,3 +34,14 @@ unit_alike = and-Alike (on_Alike (λ u. u.connection) (same_Alike fed.str bytes_
 
 pub same_units_are_fed_alike : (u v : UnitScan) → same_unit u v ≡ true → fed.str u.connection ++ fed.slice sent_writes u.conditions ≡ fed.str v.connection ++ fed.slice sent_writes v.conditions
 same_units_are_fed_alike u v h = unit_alike.fed u v h
+
+-- ---- values alone
+
+pub same_scalar_equivalence : IsEquivalence same_scalar_value
+same_scalar_equivalence = on_equiv (λ s. s.value) same_value_equivalence
+
+scalar_alike : Alike same_scalar_value (λ s. value_writes s.value)
+scalar_alike = on_Alike (λ s. s.value) value_alike
+
+pub same_scalars_are_fed_alike : (a b : Scalar) → same_scalar_value a b ≡ true → value_writes a.value ≡ value_writes b.value
+same_scalars_are_fed_alike a b h = scalar_alike.fed a b h

@@ -7,7 +7,7 @@ ghost use Rattle.sp_model.specs.Conditions.{is_scalar};
 ghost use Rattle.sp_model.specs.Units.{same_scalar, agrees, all_agree, unit_of_sent, with_value};
 ghost use Rattle.source_scans.specs.Asking.{operand_at, condition_at, unit_scan, units_at};
 ghost use Rattle.source_scans.specs.Collecting.{with_fan, scans_under, scans_at};
-ghost use Rattle.source_scans.specs.Planned.{IsPlanned};
+ghost use Rattle.source_scans.specs.Planned.{IsPlanned, conditions_of};
 
 use crate::source::{Fan, PlanCondition, PlanOperand, PlanSource};
 use crate::unit_scan::UnitScan;
@@ -226,4 +226,13 @@ pub(crate) fn units_at(
 {
     let units = all_scans(alloc, source, left)?;
     Ok(units)
+}
+
+/// The conditions of a source before any left row is there: a column of an earlier source counts as null.
+pub fn conditions_of(alloc: Global, conditions: &[PlanCondition]) -> Result<Conditions, Memory>
+    ensures { IfOk result (λ cs. cs ≡ conditions_of conditions.now) }
+{
+    let mut found = Items::new(alloc);
+    push_conditions(alloc, &mut found, &[], conditions)?;
+    Ok(found)
 }

@@ -7,10 +7,13 @@
 
 mod asking;
 mod collecting;
+mod distinct;
 mod scans;
 mod source;
 mod unit_scan;
 mod value;
 
+pub use asking::conditions_of;
+pub use distinct::distinct_values;
 pub use scans::Scans;
 pub use source::{Fan, PlanCondition, PlanOperand, PlanSource};

@@ -1,1 +1,3 @@
 pub mod ConjunctLaws
+pub mod ReadLaws
+pub mod PlaceLaws

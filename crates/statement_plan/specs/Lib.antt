@@ -1,1 +1,4 @@
 pub mod Conjuncts
+pub mod Columns
+pub mod Reading
+pub mod Placed

@@ -5,5 +5,9 @@
 //! of a source stands in `specs/Reading.antt`.
 #![tactic(auto)]
 
+mod columns;
 mod conjuncts;
+mod layout;
+mod placing;
+mod reading;
 
