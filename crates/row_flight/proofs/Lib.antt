@@ -4,3 +4,6 @@ pub mod Naming
 pub mod Given
 pub mod Going
 pub mod Heard
+pub mod Viewing
+pub mod Stepping
+pub mod Answering

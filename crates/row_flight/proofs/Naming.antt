@@ -71,11 +71,11 @@ needs_rest zero fs g name needs rest = absurd (cc)
 needs_rest (suc n) fs g name needs rest =
     or_by (Resting (suc n) fs g) (bytes_eq name g) (list_any (λ d. needs_in n fs g d) (depends_of (find_function name fs)))
     (λ e.
-        let same : name ≡ g = (bytes_eq-Decides name g).0 e in
-        (n, omega arith, rests_found (λ d. rests_in n fs d) (find_function g fs) (subst (λ z. rests_by (λ d. rests_in n fs d) (find_function z fs) ≡ true) same rest)))
+    let same : name ≡ g = (bytes_eq-Decides name g).0 e in
+    (n, omega arith, rests_found (λ d. rests_in n fs d) (find_function g fs) (subst (λ z. rests_by (λ d. rests_in n fs d) (find_function z fs) ≡ true) same rest)))
     (λ e. some_of (Resting (suc n) fs g) (λ d. needs_in n fs g d) (λ d. rests_in n fs d)
-        (λ d needed rests. let r = needs_rest n fs g d needed rests in let l = r.1 in (r.0, omega (arith, l), r.2))
-        (depends_of (find_function name fs)) e (rests_found (λ d. rests_in n fs d) (find_function name fs) rest))
+    (λ d needed rests. let r = needs_rest n fs g d needed rests in let l = r.1 in (r.0, omega (arith, l), r.2))
+    (depends_of (find_function name fs)) e (rests_found (λ d. rests_in n fs d) (find_function name fs) rest))
     needs
 
 source_rest : (fs : List FunctionDecl) (g : List ℕ) (source : Option (List ℕ)) → needs_source fs g source ≡ true → rests_some fs source ≡ true → Resting (length fs) fs g

@@ -1,5 +1,6 @@
 -- The rows in flight, in order, and the calls that they wait for.
-use Rattle.std.specs.Prelude.{◌≡◌, ℕ, ◌==◌, Bool, ◌&&◌, List, [], ◌∷◌, map, Option, Some, None, slice_get, if◌then◌else◌}
+use Rattle.std.specs.Prelude.{◌≡◌, ℕ, ◌==◌, Bool, ◌&&◌, List, [], ◌∷◌, ◌++◌, map, Option, Some, None, slice_get, if◌then◌else◌}
+use Rattle.sp_value.specs.declared.cell.Cell.{Cell}
 use Rattle.sp_model.specs.RowOf.{columns_named}
 use Rattle.sp_model.specs.declared.call.CallKey.{CallKey}
 use Rattle.sp_model.specs.declared.call.Piece.{Piece}
@@ -9,7 +10,7 @@ use Rattle.sp_model.specs.declared.scan.Seat.{Seat}
 use Rattle.hydrate_graph.specs.Graphs.{Plan, Graph, rules_in}
 use Rattle.row_pool.specs.declared.key.Key.{Key}
 use Rattle.scan_laws.specs.States.{FlightRow}
-use Rattle.row_flight.specs.Rows.{flight_row, RowAwaits, row_hears}
+use Rattle.row_flight.specs.Rows.{flight_row, begun, RowAwaits, row_hears}
 use Rattle.row_flight.specs.declared.frame.CallFrame.{CallFrame}
 use Rattle.row_flight.specs.declared.row.RowCalls.{RowCalls}
 
@@ -39,19 +40,22 @@ pub record IsOf (table : TableDecl) (request : ScanRequest) (f : InFlight) : Typ
   pub rules : f.plan.rules ≡ rules_in table table.functions
   pub columns : f.plan.columns ≡ columns_named request.columns table.columns
 
--- all but the rows is the same
-pub record SameFlight (old new : InFlight) : Type 0 where
-  pub plan : new.plan ≡ old.plan
-  pub frame : new.frame ≡ old.frame
-  pub window : new.window ≡ old.window
+-- the row of an item of which nothing is known stands at the end, under a key of its own
+pub record Puts (old new : InFlight) (item : Cell) : Type 0 where
+  pub key : Key
+  pub own : (place : ℕ) (s : Seated) → slice_get old.rows place ≡ Some s → s.key ≡ key → ⊥
+  pub is : new ≡ record old { rows = old.rows ++ record { key = key; row = begun old.plan item } ∷ [] }
 
 abbrev pub first_graph : List Seated → Option Graph
 first_graph [] = None
 first_graph (s ∷ rows) = Some s.row.graph
 
+abbrev pub key_at : Seat → Key
+key_at seat = record { slot = seat.slot; generation = seat.generation }
+
 -- this row sits at the seat
 abbrev pub Sits : InFlight → Seat → RowCalls → Type 0
-Sits f seat row = (place : ℕ) × (slice_get f.rows place ≡ Some (record { key = record { slot = seat.slot; generation = seat.generation }; row = row }))
+Sits f seat row = (place : ℕ) × (slice_get f.rows place ≡ Some (record { key = key_at seat; row = row }))
 
 -- the call is waited for at the seat, and this piece of it is next
 pub record IsAwaited (f : InFlight) (seat : Seat) (asked : CallKey) (p : Piece) : Type 0 where

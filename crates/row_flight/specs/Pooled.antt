@@ -7,7 +7,7 @@ use Rattle.sp_model.specs.Rests.{column_rests}
 use Rattle.sp_model.specs.declared.declaration.FunctionDecl.{FunctionDecl}
 use Rattle.hydrate_graph.specs.Graphs.{Plan, wants}
 use Rattle.hydrate_graph.specs.Numbers.{number_of}
-use Rattle.row_pool.specs.Pools.{Pool, shown, taken}
+use Rattle.row_pool.specs.Pools.{Pool, shown, taken, Changes}
 use Rattle.row_pool.specs.declared.key.Key.{Key}
 use Rattle.row_flight.specs.Flying.{Seated}
 use Rattle.row_flight.specs.Rows.{IsRow}
@@ -47,10 +47,17 @@ AllShow p keys = (place : ℕ) (key : Key) → slice_get keys place ≡ Some key
 -- the keys that show a row are these, each once, and the rows are of the plan; so many rows were ever taken in
 pub record IsFlight (plan : Plan) (window number : ℕ) (p : Pool RowCalls) (keys : List Key) : Type 0 where
   pub sound : IsSound plan
-  pub rows : (key : Key) (row : RowCalls) → shown p key ≡ Some row → IsRow plan row
+  pub rows : (key : Key) (row : RowCalls) → shown p key ≡ Some row → (row.graph.plan ≡ plan) × IsRow row
   pub all : (key : Key) (row : RowCalls) → shown p key ≡ Some row → Among key keys
   pub shows : AllShow p keys
   pub apart : AreApart keys
   pub used : taken p ≡ length keys
   pub room : p.count ≡ window
   pub last : p.drawn ≡ number
+
+-- for private clauses: only this key shows another row
+pub record Rewrites (old new : Pool RowCalls) (key : Key) (row : RowCalls) : Type 0 where
+  pub changes : Changes old new key (Some row)
+  pub used : taken new ≡ taken old
+  pub room : new.count ≡ old.count
+  pub last : new.drawn ≡ old.drawn

@@ -10,7 +10,7 @@ use Rattle.sp_model.specs.declared.outcome.Results.{Results}
 use Rattle.sp_model.specs.declared.outcome.Results.TheVariants.{Given, Missed, Pending}
 use Rattle.hydrate_graph.specs.Graphs.{Plan, Graph, known, is_ready, results_at, counted}
 use Rattle.hydrate_graph.specs.Numbers.{number_of, name_at}
-use Rattle.scan_laws.specs.Reaching.{Made}
+use Rattle.hydrate_graph.specs.Plans.{AreApart}
 use Rattle.scan_laws.specs.States.{FlightRow}
 use Rattle.row_flight.specs.Attempts.{fresh, is_next, heard_outcome, heard_attempt, listed_attempt}
 use Rattle.row_flight.specs.declared.attempt.Attempt.{Attempt}
@@ -97,8 +97,16 @@ row_hears row number p tick =
       attempts = with_attempt row.attempts (slot_of row.graph.plan number) (heard_attempt (rule_at row.graph.plan number) tick p a);
     }
 
--- for the model of a flight: the row's functions are those of the plan, each has its rule, and there is an attempt for each slot
-pub record IsRow (p : Plan) (row : RowCalls) : Type 0 where
-  pub plan : row.graph.plan ≡ p
-  pub room : length row.attempts ≡ p.room
-  pub rules : length p.rules ≡ length p.functions
+-- for the model of a flight: each function has its rule and its outcome, and there is an attempt for each slot
+pub record IsRow (row : RowCalls) : Type 0 where
+  pub room : length row.attempts ≡ row.graph.plan.room
+  pub rules : length row.graph.plan.rules ≡ length row.graph.plan.functions
+  pub settled : length row.graph.settled ≡ length row.graph.plan.functions
+
+-- for private clauses: the function of this number has this slot of its own
+pub record IsPlaced (row : RowCalls) (number slot : ℕ) : Type 0 where
+  pub apart : AreApart row.graph.plan.slots
+  pub at : slot_of row.graph.plan number ≡ Some slot
+  pub within : slot < length row.attempts
+  pub declared : number < length row.graph.plan.functions
+  pub settled : number < length row.graph.settled

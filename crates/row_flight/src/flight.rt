@@ -1,14 +1,27 @@
-ghost use Rattle.std.specs.Prelude.{◌≡◌, ◌↔◌, ◌<◌, ◌≤◌, ◌++◌, ◌∷◌, [], List, length, true, Some, None, IfOk, IfErr, OnOk, OnErr};
+ghost use Rattle.std.specs.Prelude.{ℕ, IsTrue, IfSome, ◌≡◌, ◌↔◌, ◌<◌, ◌≤◌, ◌++◌, ◌∷◌, [], List, length, true, Some, None, IfOk, IfErr, OnOk, OnErr};
 ghost use Rattle.std.specs.Arc.{arc_value};
 ghost use Rattle.std.specs.Option.{option_copied};
-ghost use Rattle.scan_laws.specs.Steps.{fresh_row};
-ghost use Rattle.row_flight.specs.Flying.{InFlight, Seated, SameFlight, first_graph, rows_of};
-ghost use Rattle.row_flight.specs.Rows.{begun};
+ghost use Rattle.hydrate_graph.specs.Graphs.{is_ready};
+ghost use Rattle.row_pool.specs.Pools.{shown};
+ghost use Rattle.scan_laws.specs.Flights.{AreApart};
+ghost use Rattle.scan_laws.specs.Scans.{AllAgree};
+ghost use Rattle.sp_model.specs.Settling.{Answers};
+ghost use Rattle.sp_model.specs.declared.declaration.TableDecl.{TableDecl};
+ghost use Rattle.sp_model.specs.declared.scan.ScanRequest.{ScanRequest};
+ghost use Rattle.sp_world.specs.Pieces.{IsSoundPiece};
+ghost use Rattle.row_flight.specs.Attempts.{IsAttempt};
+ghost use Rattle.row_flight.specs.Flying.{InFlight, Seated, Puts, IsOf, Sits, IsAwaited, first_graph, rows_of, heard_at, key_at};
+ghost use Rattle.row_flight.specs.Hearing.{IsPieceOfSeen, AllHear, Keeps};
+ghost use Rattle.row_flight.specs.Pooled.{Rewrites};
+ghost use Rattle.row_flight.specs.Rows.{is_open, row_hears, attempt_of, IsRow, IsPlaced};
+ghost use Rattle.row_flight.specs.declared.row.RowCalls.{RowCalls};
+ghost use Rattle.row_flight.specs.declared.frame.Taken.TheVariants as taken;
 
-use crate::frame::CallFrame;
+use crate::frame::{CallFrame, Taken};
 use crate::row::RowCalls;
 use hydrate_graph::{RowGraph, RowPlan};
 use row_pool::{Key, Pool};
+use sp_model::{CallKey, Piece, Seat};
 use sp_value::{Cell, Memory};
 use std::alloc::Global;
 use std::collections::VecDeque;
@@ -41,8 +54,11 @@ impl Model for Flight {
 
     ghost view = { λ f. record { plan = arc_value f.plan; frame = f.frame; window = f.window; rows = seated f.pool f.order.items } };
 
-    ghost invariant = { λ f. IsFlight (arc_value f.plan) f.window f.drawn f.pool f.order.items × (f.drawn ≤ 2 ^ 63) × (f.window ≤ deque_capacity f.order) };
+    ghost invariant = { λ f. IsFlight (arc_value f.plan) f.window f.drawn f.pool f.order.items × (f.drawn ≤ 2 ^ 62) × (f.window ≤ deque_capacity f.order) };
 }
+
+/// More rows than a scan can come to have.
+const MOST_ROWS: u64 = 1 << 62;
 
 impl Flight {
     /// No rows, with room for so many, which is taken here.
@@ -101,5 +117,158 @@ impl Flight {
         ensures { (result ≡ true) ↔ (self.now.window ≤ length self.now.rows) }
     {
         self.len() >= self.window as usize
+    }
+
+    /// Puts the row of an item at the end. The item is handed back for want of memory alone.
+    pub fn put(&mut self, alloc: Global, item: Cell) -> Result<(), Cell>
+        requires { length self.old.rows < self.old.window }
+        ensures ok { OnOk result (Puts self.old self.new item) }
+        ensures err { OnErr result (self.new ≡ self.old) }
+        ensures handed_back { IfErr result (λ back. back ≡ item) }
+    {
+        if self.drawn >= MOST_ROWS {
+            return Err(item);
+        }
+        let row = RowCalls::begin(alloc, &self.plan, item)?;
+        let Ok(key) = self.pool.take(row) else {
+            unreachable!()
+        };
+        self.order.push_back_reserved(key);
+        self.drawn += 1;
+        Ok(())
+    }
+
+    /// The first row.
+    pub fn first(&self) -> Option<&RowGraph>
+        ensures { option_copied result ≡ first_graph self.now.rows }
+    {
+        let Some(key) = self.order.front() else {
+            return None;
+        };
+        match self.pool.get(key) {
+            Some(row) => Some(&row.graph),
+            None => None,
+        }
+    }
+
+    /// Lets the first row go.
+    pub fn drop_first(&mut self)
+        requires { 0 < length self.old.rows }
+        ensures { (s : Seated) × (self.old ≡ record self.new { rows = s ∷ self.new.rows }) }
+    {
+        let Some(key) = self.order.pop_front() else {
+            unreachable!()
+        };
+        let _row = self.pool.give_back(key);
+    }
+
+    /// Whether a call is waited for at a seat, and this piece of it is next.
+    fn awaits(
+        &self,
+        alloc: Global,
+        seat: Seat,
+        asked: &CallKey,
+        piece: &Piece,
+    ) -> Result<bool, Memory>
+        ensures { IfOk result (λ awaited. IsTrue awaited ↔ IsAwaited self.now seat asked.now piece.now) }
+    {
+        if asked.connection != self.frame.connection || asked.version != self.frame.version {
+            return Ok(false);
+        }
+        match self.pool.get(&key_of(seat)) {
+            Some(row) => {
+                let awaited = row.awaits(
+                    alloc,
+                    &self.frame.table,
+                    seat.function,
+                    &asked.call,
+                    asked.attempt,
+                    piece,
+                )?;
+                Ok(awaited)
+            }
+            None => Ok(false),
+        }
+    }
+
+    /// Takes in a piece of the call that is waited for at a seat.
+    fn hear(&mut self, alloc: Global, seat: Seat, piece: Piece, tick: u64) -> Result<(), Memory>
+        requires open { (row : RowCalls) × Sits self.old seat row × (is_open row seat.function ≡ true) }
+        requires sound { IsSoundPiece piece }
+        ensures ok { OnOk result (self.new ≡ heard_at self.old seat piece tick) }
+        ensures err { OnErr result (self.new ≡ self.old) }
+        ensures keeps { (table : TableDecl) (request : ScanRequest) (answers : Answers) (asked : CallKey) → IsOf table request self.old → AreApart table → AllAgree table answers (rows_of self.old) → AllHear table answers self.old.rows
+            → IsAwaited self.old seat asked piece → IsPieceOfSeen (answers asked.call asked.attempt) piece → OnOk result (Keeps table request answers self.old.rows self.new.rows []) }
+    {
+        hear_at(
+            &mut self.pool,
+            alloc,
+            &key_of(seat),
+            seat.function,
+            piece,
+            tick,
+        )?;
+        Ok(())
+    }
+
+    /// Takes a piece that was told of a call, at this tick, for the seat that waits for it.
+    pub fn answered(
+        &mut self,
+        alloc: Global,
+        seat: Seat,
+        asked: &CallKey,
+        piece: Piece,
+        tick: u64,
+    ) -> Taken
+        requires { IsSoundPiece piece }
+        ensures used { result ≡ taken.Used → IsAwaited self.old seat asked.now piece }
+        ensures late { result ≡ taken.Late → IsAwaited self.old seat asked.now piece → ⊥ }
+        // The item is taken, the function is asked again after its delay, or what it gives is settled.
+        ensures heard { result ≡ taken.Used → self.new ≡ heard_at self.old seat piece tick }
+        ensures unchanged { (result ≡ taken.Used → ⊥) → self.new ≡ self.old }
+        // Where this is a piece of what is answered, the rows go on agreeing with it.
+        ensures keeps { (table : TableDecl) (request : ScanRequest) (answers : Answers) → IsOf table request self.old → AreApart table → AllAgree table answers (rows_of self.old) → AllHear table answers self.old.rows
+            → IsPieceOfSeen (answers asked.now.call asked.now.attempt) piece → Keeps table request answers self.old.rows self.new.rows [] }
+    {
+        match self.awaits(alloc, seat, asked, &piece) {
+            Err(_) => Taken::Memory,
+            Ok(false) => Taken::Late,
+            Ok(true) => match self.hear(alloc, seat, piece, tick) {
+                Ok(()) => Taken::Used,
+                Err(_) => Taken::Memory,
+            },
+        }
+    }
+}
+
+/// The key of a seat's slot.
+fn key_of(seat: Seat) -> Key
+    ensures { result ≡ key_at seat }
+{
+    Key {
+        slot: seat.slot,
+        generation: seat.generation,
+    }
+}
+
+/// The row of a key takes in a piece of the call of a function that is ready.
+fn hear_at(
+    pool: &mut Pool<RowCalls>,
+    alloc: Global,
+    key: &Key,
+    function: u32,
+    piece: Piece,
+    tick: u64,
+) -> Result<(), Memory>
+    requires row { IfSome (shown pool.old key.now) IsRow }
+    requires ready { IfSome (shown pool.old key.now) (λ row. is_ready row.graph function ≡ true) }
+    requires sound { IsSoundPiece piece }
+    ensures heard { (row : RowCalls) → shown pool.old key.now ≡ Some row → OnOk result (Rewrites pool.old pool.new key.now (row_hears row function piece tick)) }
+    ensures err { (row : RowCalls) → shown pool.old key.now ≡ Some row → OnErr result (Rewrites pool.old pool.new key.now row) }
+    ensures placed { (row : RowCalls) → shown pool.old key.now ≡ Some row → (slot : ℕ) × IsPlaced row function slot × IsAttempt (attempt_of row function) }
+{
+    match pool.get_mut(key) {
+        Some(row) => row.hear(alloc, function, piece, tick),
+        None => Ok(()),
     }
 }

@@ -18,5 +18,7 @@ pub use attempts::Attempts;
 pub use flight::Flight;
 pub use frame::{CallFrame, JobList, Taken, Wanted};
 pub use row::RowCalls;
+
 mod laws;
+
 pub use laws::flight_goes_on;

@@ -1,11 +1,11 @@
-ghost use Rattle.std.specs.Prelude.{◌≡◌, ◌↔◌, ◌<◌, ◌^◌, ◌++◌, ◌∷◌, [], true, suc, length, get_or, slice_get, Some, None, not, IsTrue, IfOk, IfErr, OnOk, OnErr};
+ghost use Rattle.std.specs.Prelude.{ℕ, ◌≡◌, ◌↔◌, ◌<◌, ◌^◌, ◌++◌, ◌∷◌, [], true, suc, length, get_or, slice_get, Some, None, not, IsTrue, IfOk, IfErr, OnOk, OnErr};
 ghost use Rattle.std.specs.Arc.{arc_value};
 ghost use Rattle.std.specs.Option.{option_copied};
 ghost use Rattle.hydrate_graph.specs.Graphs.{is_ready, wants};
 ghost use Rattle.hydrate_graph.specs.Numbers.{name_at};
 ghost use Rattle.sp_world.specs.Pieces.{IsSoundPiece};
 ghost use Rattle.row_flight.specs.Attempts.{fresh, is_next, IsAttempt};
-ghost use Rattle.row_flight.specs.Rows.{attempt_of, slot_of, begun, is_open, is_unlisted, call_of, row_lists, row_hears, IsRow, RowAwaits};
+ghost use Rattle.row_flight.specs.Rows.{attempt_of, slot_of, begun, is_open, is_unlisted, call_of, row_lists, row_hears, IsRow, IsPlaced, RowAwaits};
 
 use crate::attempt::Attempt;
 use crate::attempts::Attempts;
@@ -37,11 +37,9 @@ impl RowCalls {
 
     /// The slot of a function that a column needs.
     fn slot(&self, function: u32) -> u32
-        requires row { IsRow self.now.graph.plan self.now }
+        requires row { IsRow self.now }
         requires wanted { wants self.now.graph.plan function ≡ true }
-        ensures slot { slot_of self.now.graph.plan function ≡ Some result }
-        ensures within { result < length self.now.attempts }
-        ensures declared { function < length self.now.graph.plan.functions }
+        ensures { IsPlaced self.now function result }
     {
         let Some(slot) = self.graph.plan().slot(function) else {
             unreachable!()
@@ -51,7 +49,7 @@ impl RowCalls {
 
     /// The present attempt of a function that a column needs.
     fn attempt(&self, function: u32) -> &Attempt
-        requires row { IsRow self.now.graph.plan self.now }
+        requires row { IsRow self.now }
         requires wanted { wants self.now.graph.plan function ≡ true }
         ensures value { result.now ≡ attempt_of self.now function }
         ensures sound { IsAttempt result.now }
@@ -61,7 +59,7 @@ impl RowCalls {
 
     /// Whether a function is ready and its present attempt isn't listed.
     pub(crate) fn is_unlisted(&self, function: u32) -> bool
-        requires { IsRow self.now.graph.plan self.now }
+        requires { IsRow self.now }
         ensures { result ≡ is_unlisted self.now function }
     {
         self.graph.is_ready(function) && !self.attempt(function).listed
@@ -69,7 +67,7 @@ impl RowCalls {
 
     /// Whether a function is ready and its present attempt is listed.
     pub(crate) fn is_open(&self, function: u32) -> bool
-        requires { IsRow self.now.graph.plan self.now }
+        requires { IsRow self.now }
         ensures { result ≡ is_open self.now function }
     {
         self.graph.is_ready(function) && self.attempt(function).listed
@@ -77,7 +75,7 @@ impl RowCalls {
 
     /// The name of a function that is ready.
     fn name(&self, function: u32) -> &Text
-        requires row { IsRow self.now.graph.plan self.now }
+        requires row { IsRow self.now }
         requires ready { is_ready self.now.graph function ≡ true }
         ensures { result.now ≡ name_at self.now.graph.plan.functions function }
     {
@@ -87,7 +85,7 @@ impl RowCalls {
 
     /// The call of a function that is ready, with the results of its dependencies.
     pub(crate) fn call(&self, alloc: Global, table: &Text, function: u32) -> Result<Call, Memory>
-        requires row { IsRow self.now.graph.plan self.now }
+        requires row { IsRow self.now }
         requires ready { is_ready self.now.graph function ≡ true }
         ensures { IfOk result (λ asked. call_of table.now self.now function ≡ Some asked) }
     {
@@ -108,7 +106,7 @@ impl RowCalls {
         function: u32,
         asked: &Call,
     ) -> Result<bool, Memory>
-        requires row { IsRow self.now.graph.plan self.now }
+        requires row { IsRow self.now }
         requires ready { is_ready self.now.graph function ≡ true }
         ensures { IfOk result (λ same. IsTrue same ↔ (call_of table.now self.now function ≡ Some asked.now)) }
     {
@@ -141,7 +139,7 @@ impl RowCalls {
         attempt: u32,
         piece: &Piece,
     ) -> Result<bool, Memory>
-        requires { IsRow self.now.graph.plan self.now }
+        requires { IsRow self.now }
         ensures { IfOk result (λ awaited. IsTrue awaited ↔ RowAwaits table.now self.now function asked.now attempt piece.now) }
     {
         if !self.is_open(function) {
@@ -157,9 +155,10 @@ impl RowCalls {
 
     /// The present attempt of a function that is ready is listed.
     pub(crate) fn list_function(&mut self, function: u32)
-        requires row { IsRow self.old.graph.plan self.old }
+        requires row { IsRow self.old }
         requires ready { is_ready self.old.graph function ≡ true }
-        ensures { self.new ≡ row_lists self.old function }
+        ensures listed { self.new ≡ row_lists self.old function }
+        ensures placed { (slot : ℕ) × IsPlaced self.old function slot }
     {
         let slot = self.slot(function);
         self.attempts.list(slot);
@@ -173,12 +172,13 @@ impl RowCalls {
         piece: Piece,
         tick: u64,
     ) -> Result<(), Memory>
-        requires row { IsRow self.old.graph.plan self.old }
+        requires row { IsRow self.old }
         requires ready { is_ready self.old.graph function ≡ true }
         requires sound_piece { IsSoundPiece piece }
         ensures heard { OnOk result (self.new ≡ row_hears self.old function piece tick) }
         ensures err { OnErr result (self.new ≡ self.old) }
         ensures sound { IsAttempt (attempt_of self.old function) }
+        ensures placed { (slot : ℕ) × IsPlaced self.old function slot }
     {
         let slot = self.slot(function);
         let _attempt = self.attempt(function);
