@@ -17,6 +17,7 @@ use Rattle.child_link.specs.Ledger.{weigh_jobs, credit, Moves}
 use Rattle.child_link.specs.Sent.{flight_of, IsHeardIf}
 use Rattle.std.proofs.lemmas.List.{map-append}
 use Rattle.child_link.specs.declared.flight.Flight.{Flight}
+use Rattle.child_link.specs.declared.prepared.Prepared.{Prepared}
 use Rattle.call_jobs.specs.declared.job.Job.{Job}
 
 -- ---- lists
@@ -95,19 +96,19 @@ again_given w log line = let a = again-more w log (Given line) in omega (arith, 
 -- ---- a link's steps
 
 -- one flight more
-weigh_more : (w : Weight) (fs gs : List Flight) (id : ℕ) (job : Job) (permit : Permit) → gs ≡ fs ++ flight_of id job permit ∷ [] → weigh w (calls_of gs) ≡ weigh w (calls_of fs) + (w (asked_by job) + 0)
-weigh_more w fs gs id job permit more =
-    ap (λ xs. weigh w (calls_of xs)) more ∙ ap (weigh w) (map-append open_of fs (flight_of id job permit ∷ [])) ∙ weigh-append w (calls_of fs) (open_of (flight_of id job permit) ∷ [])
+weigh_more : (w : Weight) (fs gs : List Flight) (id : ℕ) (p : Prepared) (permit : Permit) → gs ≡ fs ++ flight_of id p permit ∷ [] → weigh w (calls_of gs) ≡ weigh w (calls_of fs) + (w (asked_by p.job) + 0)
+weigh_more w fs gs id p permit more =
+    ap (λ xs. weigh w (calls_of xs)) more ∙ ap (weigh w) (map-append open_of fs (flight_of id p permit ∷ [])) ∙ weigh-append w (calls_of fs) (open_of (flight_of id p permit) ∷ [])
 
-pub send_moves : {T E : Type 0} (r : Result T E) (id : ℕ) (job : Job) (permit : Permit) (log log' : List Event) (fs gs : List Flight) → IsHeardIf r id job log log'
-    → gs ≡ fs ++ flight_of id job permit ∷ [] → Moves log (calls_of fs) log' (calls_of gs) (job ∷ []) []
-send_moves (Ok t) id job permit log log' fs gs (line, reads, is) more w =
-    let c = weigh_more w fs gs id job permit more in
-    let d = ap (heard w) is ∙ debit_heard w log line id (asked_by job) (function_by job) reads in
-    let e = ap (credit w) is ∙ credit_heard w log line id (asked_by job) (function_by job) reads in
+pub send_moves : {T E : Type 0} (r : Result T E) (id : ℕ) (p : Prepared) (permit : Permit) (log log' : List Event) (fs gs : List Flight) → IsHeardIf r id p.job log log'
+    → gs ≡ fs ++ flight_of id p permit ∷ [] → Moves log (calls_of fs) log' (calls_of gs) (p.job ∷ []) []
+send_moves (Ok t) id p permit log log' fs gs (line, reads, is) more w =
+    let c = weigh_more w fs gs id p permit more in
+    let d = ap (heard w) is ∙ debit_heard w log line id (asked_by p.job) (function_by p.job) reads in
+    let e = ap (credit w) is ∙ credit_heard w log line id (asked_by p.job) (function_by p.job) reads in
     omega (arith, c, d, e)
-send_moves (Err e) id job permit log log' fs gs is more w =
-    let c = weigh_more w fs gs id job permit more in
+send_moves (Err e) id p permit log log' fs gs is more w =
+    let c = weigh_more w fs gs id p permit more in
     let d = ap (heard w) is in
     let e = ap (credit w) is in
     omega (arith, c, d, e)

@@ -8,10 +8,11 @@ use Rattle.sp_world.specs.declared.line.Request.TheVariants.{Ask}
 use Rattle.sp_outside.specs.declared.log.Event.{Event}
 use Rattle.sp_outside.specs.declared.log.Event.TheVariants.{Heard}
 use Rattle.child_link.specs.declared.flight.Flight.{Flight}
+use Rattle.child_link.specs.declared.prepared.Prepared.{Prepared}
 
 -- the call that it opens, with the grant that it spends
-abbrev pub flight_of : ℕ → Job → Permit → Flight
-flight_of id job permit = record { id = id; job = job; taken = 0; used = record { number = permit.number; tags = permit.tags } }
+abbrev pub flight_of : ℕ → Prepared → Permit → Flight
+flight_of id p permit = record { id = id; job = p.job; taken = 0; used = record { number = permit.number; tags = permit.tags }; length = p.length }
 
 -- where the send was made the child heard the job's request under this number, else nothing
 abbrev pub IsHeardIf : {T E : Type 0} → Result T E → ℕ → Job → List Event → List Event → Type 0

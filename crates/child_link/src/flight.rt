@@ -8,12 +8,14 @@ use sp_value::{Memory, TryCopy};
 use sqlite_items::Items;
 use std::alloc::Global;
 
-/// An open call: its number, its job, how many items it has given, and its grant. It has no `Drop`, since a grant hasn't.
+/// An open call: its number, its job, how many items it has given, its grant, and how many bytes its line has without the number. It has
+/// no `Drop`, since a grant hasn't.
 pub struct Flight {
     pub id: u64,
     pub job: Job,
     pub taken: u64,
     pub used: Used,
+    pub length: usize,
 }
 
 /// The place of the first open call of a number.
@@ -74,6 +76,7 @@ pub(crate) fn close(flights: &mut Vec<Flight>, at: usize) -> Used
         job,
         taken: _,
         used,
+        length: _,
     } = flights.remove(at);
     drop(job);
     used

@@ -82,7 +82,7 @@ impl<W: World, C: Child<W>> Link<W, C> {
         requires tags { permit.tags ≡ prepared.job.tags }
         requires small { C.sends self.old.child < 2 ^ 63 - 1 }
         ensures sends { C.sends self.new.child ≡ C.sends self.old.child + 1 }
-        ensures flights { self.new.flights.items ≡ self.old.flights.items ++ flight_of (C.sends self.new.child) prepared.job permit ∷ [] }
+        ensures flights { self.new.flights.items ≡ self.old.flights.items ++ flight_of (C.sends self.new.child) prepared permit ∷ [] }
         ensures log { IsTrue W.tells → IsHeardIf result (C.sends self.new.child) prepared.job (C.log self.old.child) (C.log self.new.child) }
         ensures lost { result ≡ Ok tt ⊎ ((result ≡ Err loss.Fault) × Rose (C.faulted self.old.child) (C.faulted self.new.child)) }
         ensures later { C.faulted self.old.child ≤ C.faulted self.new.child }

@@ -71,7 +71,7 @@ pub(crate) fn send_call<W: World, C: Child<W>>(
     requires holds { Holds W.tells W.book (C.log parts.old.child) (C.last parts.old.child) (C.gives parts.old.child) parts.old.kept parts.old.up (calls_of parts.old.flights.items) }
     ensures holds { Holds W.tells W.book (C.log parts.new.child) (C.last parts.new.child) (C.gives parts.new.child) parts.new.kept parts.new.up (calls_of parts.new.flights.items) }
     ensures sends { C.sends parts.new.child ≡ C.sends parts.old.child + 1 }
-    ensures flights { parts.new.flights.items ≡ parts.old.flights.items ++ flight_of (C.sends parts.new.child) prepared.job permit ∷ [] }
+    ensures flights { parts.new.flights.items ≡ parts.old.flights.items ++ flight_of (C.sends parts.new.child) prepared permit ∷ [] }
     ensures log { IsTrue W.tells → IsHeardIf result (C.sends parts.new.child) prepared.job (C.log parts.old.child) (C.log parts.new.child) }
     ensures lost { result ≡ Ok tt ⊎ ((result ≡ Err loss.Fault) × Rose (C.faulted parts.old.child) (C.faulted parts.new.child)) }
     ensures later { C.faulted parts.old.child ≤ C.faulted parts.new.child }
@@ -80,7 +80,7 @@ pub(crate) fn send_call<W: World, C: Child<W>>(
     ensures own { (C.connection parts.new.child ≡ C.connection parts.old.child) × (C.gives parts.new.child ≡ C.gives parts.old.child) }
     ensures room { (vec_len parts.new.flights ≡ vec_len parts.old.flights + 1) × (vec_capacity parts.old.flights ≤ vec_capacity parts.new.flights) × (parts.new.prepared + 1 ≡ parts.old.prepared) }
 {
-    let Prepared { job, line } = prepared;
+    let Prepared { job, line, length } = prepared;
     let id = parts.child.sent() + 1;
     let line = line.fill(id);
     let sent = parts.child.send(&line);
@@ -89,6 +89,7 @@ pub(crate) fn send_call<W: World, C: Child<W>>(
         job,
         taken: 0,
         used: permit.into_used(),
+        length,
     };
     parts.flights.push_reserved(flight);
     parts.prepared -= 1;

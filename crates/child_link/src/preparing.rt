@@ -14,7 +14,11 @@ impl Prepared {
     pub fn into_job(self) -> Job
         ensures { result ≡ self.job }
     {
-        let Prepared { job, line } = self;
+        let Prepared {
+            job,
+            line,
+            length: _,
+        } = self;
         drop(line);
         job
     }
@@ -38,7 +42,10 @@ pub(crate) fn prepared(alloc: Global, job: Job) -> Result<Prepared, Job>
     ensures err { IfErr result (λ back. back ≡ job) }
 {
     match line_of(alloc, &job) {
-        Ok(line) => Ok(Prepared { job, line }),
+        Ok(line) => {
+            let length = line.head.len().saturating_add(line.tail.len());
+            Ok(Prepared { job, line, length })
+        }
         Err(_) => Err(job),
     }
 }

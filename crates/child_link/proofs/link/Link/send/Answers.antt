@@ -9,5 +9,5 @@ returns-clause-ledger g c = λ tells.
     let old = c.self.inside.parts in
     let new = c.send_call.new.parts in
     subst (λ v. Moves (g.C.Child.log v.child) (calls_of v.flights.items) (g.C.Child.log new.child) (calls_of new.flights.items) (c.args.prepared.job ∷ []) []) c.self.view_is
-    (send_moves c.send_call.result (g.C.Child.sends new.child) c.args.prepared.job c.args.permit (g.C.Child.log old.child) (g.C.Child.log new.child) old.flights.items new.flights.items
+    (send_moves c.send_call.result (g.C.Child.sends new.child) c.args.prepared c.args.permit (g.C.Child.log old.child) (g.C.Child.log new.child) old.flights.items new.flights.items
     (c.send_call.ensures.log tells) c.send_call.ensures.flights)
