@@ -2,7 +2,8 @@
 use Rattle.std.proofs.Common.{◌≡◌, ℕ, zero, suc, ◌<◌, List, [], ◌∷◌, ◌++◌, length, take, drop, get_or, sym, ap, ◌∙◌, append_assoc, append-nil, arith}
 use Rattle.sp_value.specs.declared.cell.Cell.{Cell}
 use Rattle.sp_world.specs.ReplyLines.{Item}
-use Rattle.plugin_kit.specs.Replies.{line_text, items_text}
+use Rattle.plugin_kit.specs.Replies.{line_text}
+use Rattle.plugin_kit.specs.Said.{items_text}
 
 -- the lines up to an item, and its own
 pub items_to : (id k : ℕ) (items : List Cell) (x : Cell) → k < length items → x ≡ get_or items k x

@@ -1,5 +1,5 @@
-mod Feeds
 mod Items
+mod Said
 mod Writing
 mod Lines
 mod Steps

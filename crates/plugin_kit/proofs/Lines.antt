@@ -1,7 +1,7 @@
 -- The first line of bytes.
 use Rattle.std.proofs.Common.{◌≡◌, ℕ, suc, ◌+◌, ◌≤◌, ◌<◌, Bool, true, false, cond, List, [], ◌∷◌, ◌++◌, length, take, drop, refl, ap, subst, arith}
-use Rattle.plugin_kit.specs.Lines.{is_feed, begin, lines_of}
-use Rattle.plugin_kit.proofs.Feeds.{first, first_of}
+use Rattle.byte_lines.specs.Lines.{is_feed, begin, lines_of}
+use Rattle.byte_lines.proofs.Feeds.{first, first_of}
 
 -- the lines of a byte and of bytes after it, by whether the byte is a line feed
 abbrev lines_by : Bool → ℕ → List (List ℕ) → List (List ℕ)

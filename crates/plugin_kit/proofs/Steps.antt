@@ -7,7 +7,8 @@ use Rattle.std.proofs.KnownBytes.{Appends-nil, Appends-trans, Consumes-nil, Cons
 use Rattle.sp_model.specs.Book.{Book}
 use Rattle.sp_world.specs.declared.line.Request.{Request}
 use Rattle.sp_outside.specs.Writing.{GrewByPrefix}
-use Rattle.plugin_kit.specs.Lines.{is_feed, lines_of, requests_of, first_bad, request_in, kept, and_then, bad_or}
+use Rattle.byte_lines.specs.Lines.{is_feed, lines_of}
+use Rattle.plugin_kit.specs.Lines.{requests_of, first_bad, request_in, kept, and_then, bad_or}
 use Rattle.plugin_kit.specs.Replies.{answer_to, answers_to, Answered, AnsweredInPart}
 use Rattle.plugin_kit.specs.Serving.{IsAnswered, IsTaken, IsServed, known}
 use Rattle.plugin_kit.specs.Steps.{bad_line, served_of, HasNoFeed, IsLineAnswered, IsLineBad, StopsAtLine, HasPassed, StopsWithin, IsBadAfter, IsServing, ReadsMore, ReadsNoMore}
@@ -15,7 +16,7 @@ use Rattle.plugin_kit.specs.declared.stop.Stop.{Stop}
 use Rattle.plugin_kit.specs.declared.stop.Stop.TheVariants.{BadLine, WriteFault, Memory}
 use Rattle.plugin_kit.specs.declared.served.Served.{Served}
 use Rattle.plugin_kit.specs.declared.served.Served.TheVariants as served
-use Rattle.plugin_kit.proofs.Feeds.{first, first_within, first-append}
+use Rattle.byte_lines.proofs.Feeds.{first, first_within, first-append}
 use Rattle.plugin_kit.proofs.Lines.{line_before, line_goes_on, line_at_end, GoesOn}
 use Rattle.plugin_kit.proofs.Writing.{begun_nil, begun_after}
 

@@ -4,14 +4,18 @@ use Rattle.std.specs.Prelude.{IfSome}
 use Rattle.std.specs.Io.KnownBytes.{Appends}
 use Rattle.serde_json.specs.Data.{Data}
 use Rattle.sp_model.specs.Book.{Book}
+use Rattle.sp_model.specs.declared.call.Asked.{Asked}
 use Rattle.sp_model.specs.declared.call.CallKey.{CallKey}
 use Rattle.sp_model.specs.declared.call.Reply.{Reply}
 use Rattle.sp_model.specs.declared.call.Version.{Version}
 use Rattle.sp_world.specs.ReplyLines.{ReplyLine}
 use Rattle.sp_world.specs.ReplyLines as line
 use Rattle.sp_world.specs.declared.line.Request.{Request}
+use Rattle.sp_world.specs.declared.line.Request.TheVariants.{Ask}
 use Rattle.sp_outside.specs.Writing.{GrewByPrefix}
-use Rattle.plugin_kit.specs.Replies.{line_text, reply_lines, version_line, answer_to, answers_to, Answered, AnsweredInPart}
+use Rattle.plugin_kit.specs.Replies.{line_text, answer_to, answers_to, Answered, AnsweredInPart}
+use Rattle.plugin_kit.specs.Said.{reply_lines, version_line, asked_text}
+use Rattle.plugin_kit.proofs.Said.{answer_said}
 
 -- ---- one text, and a beginning of it
 
@@ -91,10 +95,14 @@ unwritten (Some b) held f = begun_nil held (f b)
 
 -- ---- requests
 
-pub one_answered : (o : Option Book) (held now : Option (List ℕ)) (r : Request) → IfSome o (λ b. Appends held now (answer_to b r)) → Answered o held now (r ∷ [])
-one_answered None held now r whole = tt
-one_answered (Some b) held now r whole = subst (Appends held now) (sym (append-nil (answer_to b r))) whole
+pub one_answered : (o : Option Book) (held now : Option (List ℕ)) (id : ℕ) (what : Asked) (function : Option (List ℕ)) → IfSome o (λ b. Appends held now (asked_text b id what))
+    → Answered o held now (Ask id what function ∷ [])
+one_answered None held now id what function whole = tt
+one_answered (Some b) held now id what function whole =
+    subst (Appends held now) (answer_said b id what function ∙ sym (append-nil (answer_to b (Ask id what function)))) whole
 
-pub one_begun : (o : Option Book) (held now : Option (List ℕ)) (r : Request) (later : List Request) → IfSome o (λ b. GrewByPrefix held now (answer_to b r)) → AnsweredInPart o held now (r ∷ later)
-one_begun None held now r later part = tt
-one_begun (Some b) held now r later part = begun_more held now (answer_to b r) (answers_to b later) part
+pub one_begun : (o : Option Book) (held now : Option (List ℕ)) (id : ℕ) (what : Asked) (function : Option (List ℕ)) (later : List Request)
+    → IfSome o (λ b. GrewByPrefix held now (asked_text b id what)) → AnsweredInPart o held now (Ask id what function ∷ later)
+one_begun None held now id what function later part = tt
+one_begun (Some b) held now id what function later part =
+    begun_more held now (answer_to b (Ask id what function)) (answers_to b later) (subst (GrewByPrefix held now) (answer_said b id what function) part)

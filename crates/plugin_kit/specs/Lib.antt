@@ -1,4 +1,5 @@
 pub mod Lines
 pub mod Replies
+pub mod Said
 pub mod Serving
 pub mod Steps

@@ -1,22 +1,8 @@
--- The lines of an input, and which of them are requests.
-use Rattle.std.specs.Prelude.{ℕ, ◌==◌, Bool, List, [], ◌∷◌, length, take, nat_le, if◌then◌else◌, Option, Some, None, Result, Ok, Err}
+-- Which lines of an input are requests.
+use Rattle.std.specs.Prelude.{ℕ, List, [], ◌∷◌, length, take, nat_le, if◌then◌else◌, Option, Some, None, Result, Ok, Err}
 use Rattle.sp_world.specs.RequestLines.{request_of}
 use Rattle.sp_world.specs.declared.line.LineFault.{LineFault}
 use Rattle.sp_world.specs.declared.line.Request.{Request}
-
--- a byte is a line feed
-abbrev pub is_feed : ℕ → Bool
-is_feed byte = byte == 10
-
--- a byte before lines begins the first of them
-abbrev pub begin : ℕ → List (List ℕ) → List (List ℕ)
-begin byte [] = (byte ∷ []) ∷ []
-begin byte (line ∷ lines) = (byte ∷ line) ∷ lines
-
--- the lines of bytes: each goes to its line feed, and the last one to the end of the bytes, if anything follows the last line feed
-abbrev pub lines_of : List ℕ → List (List ℕ)
-lines_of [] = []
-lines_of (byte ∷ bytes) = if is_feed byte then [] ∷ lines_of bytes else begin byte (lines_of bytes)
 
 abbrev pub accepted : Result Request LineFault → Option Request
 accepted (Ok request) = Some request

@@ -1,16 +1,11 @@
 -- The text that requests are answered with.
-use Rattle.std.specs.Prelude.{ℕ, List, [], ◌∷◌, ◌++◌, Option, Some, None}
+use Rattle.std.specs.Prelude.{ℕ, zero, suc, List, [], ◌∷◌, ◌++◌, length, Option, Some, None}
 use Rattle.std.specs.Io.KnownBytes.{Appends}
-use Rattle.sp_value.specs.declared.cell.Cell.{Cell}
 use Rattle.sp_model.specs.Book.{Book}
+use Rattle.sp_model.specs.declared.call.Asked.{Asked}
 use Rattle.sp_model.specs.declared.call.Asked.TheVariants as asked
-use Rattle.sp_model.specs.declared.call.Ending.{Ending}
-use Rattle.sp_model.specs.declared.call.Ending.TheVariants as ending
-use Rattle.sp_model.specs.declared.call.Reply.{Reply}
-use Rattle.sp_model.specs.declared.call.Version.{Version}
-use Rattle.sp_model.specs.declared.call.Version.TheVariants as version
+use Rattle.sp_world.specs.Fits.{book_line}
 use Rattle.sp_world.specs.ReplyLines.{ReplyLine, reply_text}
-use Rattle.sp_world.specs.ReplyLines as line
 use Rattle.sp_world.specs.declared.line.Request.{Request}
 use Rattle.sp_world.specs.declared.line.Request.TheVariants.{Ask}
 use Rattle.sp_outside.specs.Writing.{GrewByPrefix}
@@ -19,29 +14,20 @@ use Rattle.sp_outside.specs.Writing.{GrewByPrefix}
 unfoldable pub line_text : ReplyLine → List ℕ
 line_text l = reply_text l ++ 10 ∷ []
 
--- a line for each item, in order
-abbrev pub items_text : ℕ → List Cell → List ℕ
-items_text id [] = []
-items_text id (item ∷ items) = line_text (line.Item id item) ++ items_text id items
+-- how many lines answer what was asked: one for each item of a reply and one for its ending, or one
+abbrev pub lines_for : Book → Asked → ℕ
+lines_for book (asked.Call key) = suc (length (book.reply key).items)
+lines_for book (asked.Version connection tick) = 1
+lines_for book (asked.Declare connection) = 1
 
-abbrev pub ending_line : ℕ → Ending → ReplyLine
-ending_line id ending.End = line.End id
-ending_line id (ending.Error text) = line.Error id text
+-- the texts of so many of a book's lines under a number, once `place` items of its reply were given
+abbrev pub lines_from : Book → ℕ → Asked → ℕ → ℕ → List ℕ
+lines_from book id what place zero = []
+lines_from book id what place (suc count) = line_text (book_line book id what place) ++ lines_from book id what (suc place) count
 
--- the items of a reply, and its ending
-abbrev pub reply_lines : ℕ → Reply → List ℕ
-reply_lines id reply = items_text id reply.items ++ line_text (ending_line id reply.ending)
-
--- a version, or the error why there is none
-abbrev pub version_line : ℕ → Version → ReplyLine
-version_line id (version.Is number) = line.Version id number
-version_line id (version.Bad text) = line.Error id text
-
--- the text that a request is answered with by a book
-abbrev pub answer_to : Book → Request → List ℕ
-answer_to book (Ask id (asked.Call key) function) = reply_lines id (book.reply key)
-answer_to book (Ask id (asked.Version connection tick) function) = line_text (version_line id (book.version connection tick))
-answer_to book (Ask id (asked.Declare connection) function) = line_text (line.Declaration id (book.declaration connection))
+-- the text that a request is answered with by a book: all of the book's lines
+unfoldable pub answer_to : Book → Request → List ℕ
+answer_to book (Ask id what function) = lines_from book id what 0 (lines_for book what)
 
 -- requests are answered one after another
 abbrev pub answers_to : Book → List Request → List ℕ

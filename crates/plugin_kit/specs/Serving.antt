@@ -2,7 +2,8 @@
 use Rattle.std.specs.Prelude.{◌≡◌, ℕ, ◌≤◌, ◌<◌, ◌^◌, List, [], ◌++◌, length, Option, Some, None}
 use Rattle.std.specs.Io.KnownBytes.{Consumes, IsAtEnd}
 use Rattle.sp_model.specs.Book.{Book}
-use Rattle.plugin_kit.specs.Lines.{lines_of, requests_of, first_bad}
+use Rattle.byte_lines.specs.Lines.{lines_of}
+use Rattle.plugin_kit.specs.Lines.{requests_of, first_bad}
 use Rattle.plugin_kit.specs.Replies.{Answered, AnsweredInPart}
 use Rattle.plugin_kit.specs.declared.served.Served.{Served}
 use Rattle.plugin_kit.specs.declared.served.Served.TheVariants.{End, BadLine, Limit, Memory}

@@ -4,7 +4,8 @@ use Rattle.std.specs.List.{position_or_len}
 use Rattle.std.specs.Io.KnownBytes.{Consumes, IsAtEnd}
 use Rattle.sp_model.specs.Book.{Book}
 use Rattle.sp_world.specs.declared.line.Request.{Request}
-use Rattle.plugin_kit.specs.Lines.{is_feed, lines_of, requests_of, first_bad, request_in, kept, and_then}
+use Rattle.byte_lines.specs.Lines.{is_feed, lines_of}
+use Rattle.plugin_kit.specs.Lines.{requests_of, first_bad, request_in, kept, and_then}
 use Rattle.plugin_kit.specs.Replies.{Answered, AnsweredInPart}
 use Rattle.plugin_kit.specs.declared.stop.Stop.{Stop}
 use Rattle.plugin_kit.specs.declared.stop.Stop.TheVariants.{BadLine, WriteFault, Memory}

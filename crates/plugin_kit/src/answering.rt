@@ -5,7 +5,8 @@ ghost use Rattle.sp_world.specs.ReplyLines as replies;
 ghost use Rattle.sp_world.specs.declared.line.Request.{Request};
 ghost use Rattle.sp_outside.specs.Causes.{Rose};
 ghost use Rattle.sp_outside.specs.Writing.{GrewByPrefix};
-ghost use Rattle.plugin_kit.specs.Replies.{line_text, items_text, ending_line, reply_lines, version_line, Answered, AnsweredInPart};
+ghost use Rattle.plugin_kit.specs.Replies.{line_text, Answered, AnsweredInPart};
+ghost use Rattle.plugin_kit.specs.Said.{items_text, ending_line, reply_lines, version_line, asked_text};
 
 use crate::routes::Routes;
 use crate::stop::Unwritten;
@@ -22,10 +23,8 @@ fn line_bytes(alloc: Global, line: &Line) -> Result<Vec<u8>, Memory>
     ensures { IfOk result (λ v. v.items ≡ line_text (seen line.now)) }
 {
     let mut bytes = reply_line(alloc, line)?;
-    match bytes.push(b'\n') {
-        Ok(()) => Ok(bytes),
-        Err(_) => Err(Memory),
-    }
+    bytes.push(b'\n')?;
+    Ok(bytes)
 }
 
 /// Writes a line.
@@ -198,6 +197,28 @@ fn say_call<R: Routes, O: Sink>(
     say_reply(alloc, sink, id, &reply)
 }
 
+/// Writes what the routes answer to what is asked under a number.
+fn say_asked<R: Routes, O: Sink>(
+    alloc: Global,
+    sink: &mut O,
+    routes: &R,
+    id: u64,
+    asked: &Asked,
+) -> Result<(), Unwritten>
+    ensures whole { OnOk result (IfSome (R.book routes.now) (λ b. Appends (O.held sink.old) (O.held sink.new) (asked_text b id asked.now))) }
+    ensures part { OnErr result (IfSome (R.book routes.now) (λ b. GrewByPrefix (O.held sink.old) (O.held sink.new) (asked_text b id asked.now))) }
+    ensures later { O.faulted sink.old ≤ O.faulted sink.new }
+    ensures cause { result ≡ Err Unwritten.Fault → Rose (O.faulted sink.old) (O.faulted sink.new) }
+{
+    match asked {
+        Asked::Call(key) => say_call(alloc, sink, routes, id, key),
+        Asked::Version { connection, tick } => {
+            say_version(alloc, sink, routes, id, connection, *tick)
+        }
+        Asked::Declare { connection } => say_declaration(alloc, sink, routes, id, connection),
+    }
+}
+
 /// Writes what the routes answer to a request.
 #[tactic(auto, using(crate::proofs::Writing::one_answered, crate::proofs::Writing::one_begun))]
 pub(crate) fn answer<R: Routes, O: Sink>(
@@ -216,11 +237,5 @@ pub(crate) fn answer<R: Routes, O: Sink>(
         asked,
         function: _function,
     } = request;
-    match &asked {
-        Asked::Call(key) => say_call(alloc, sink, routes, id, key),
-        Asked::Version { connection, tick } => {
-            say_version(alloc, sink, routes, id, connection, *tick)
-        }
-        Asked::Declare { connection } => say_declaration(alloc, sink, routes, id, connection),
-    }
+    say_asked(alloc, sink, routes, id, &asked)
 }

@@ -18,7 +18,6 @@ mod routes;
 mod served;
 mod serving;
 mod stop;
-mod waiting;
 
 pub use routes::Routes;
 pub use served::Served;

@@ -2,7 +2,7 @@ ghost use Rattle.std.specs.Prelude.{◌≡◌, ◌≢◌, ◌≤◌, ◌<◌, Er
 ghost use Rattle.std.specs.List.{position_or_len};
 ghost use Rattle.std.specs.Io.KnownBytes.{Keeps};
 ghost use Rattle.sp_outside.specs.Causes.{Rose};
-ghost use Rattle.plugin_kit.specs.Lines.{is_feed};
+ghost use Rattle.byte_lines.specs.Lines.{is_feed};
 ghost use Rattle.plugin_kit.specs.Serving.{IsAnswered, IsServed};
 ghost use Rattle.plugin_kit.specs.Steps.{HasNoFeed, HasPassed, StopsWithin, ReadsMore, ReadsNoMore};
 
@@ -10,7 +10,7 @@ use crate::line_answer::{LONGEST, answer_line, bad_line};
 use crate::routes::Routes;
 use crate::served::Served;
 use crate::stop::{Stop, Unread, served};
-use crate::waiting::Waiting;
+use byte_lines::PendingBytes;
 use sp_outside::{Sink, Source};
 use std::alloc::Global;
 
@@ -21,12 +21,12 @@ const MOST: u64 = 4_611_686_018_427_387_904;
 const PIECE: usize = 4096;
 
 /// Answers the lines that wait, as far as they are whole. No line feed is among the bytes that were searched before.
-#[tactic(auto, using(crate::proofs::Steps::stop_at_line, crate::proofs::Steps::stop_at_long, crate::proofs::Steps::passed_line, crate::proofs::Steps::passed_none, crate::proofs::Feeds::no_feed))]
+#[tactic(auto, using(crate::proofs::Steps::stop_at_line, crate::proofs::Steps::stop_at_long, crate::proofs::Steps::passed_line, crate::proofs::Steps::passed_none, byte_lines::proofs::Feeds::no_feed))]
 fn answer_waiting<R: Routes, O: Sink>(
     alloc: Global,
     sink: &mut O,
     routes: &R,
-    waiting: &mut Waiting,
+    waiting: &mut PendingBytes,
     searched: usize,
 ) -> Result<(), Stop>
     requires { searched ≤ position_or_len is_feed waiting.old }
@@ -52,7 +52,11 @@ fn answer_waiting<R: Routes, O: Sink>(
 }
 
 /// Reads one piece more, of at most `room` bytes; nothing at the end.
-fn read_more<I: Source>(source: &mut I, waiting: &mut Waiting, room: u64) -> Result<usize, Unread>
+fn read_more<I: Source>(
+    source: &mut I,
+    waiting: &mut PendingBytes,
+    room: u64,
+) -> Result<usize, Unread>
     requires { 0 < room }
     ensures more { IfOk result (λ count. ReadsMore (I.left source.old) (I.left source.new) waiting.old waiting.new room count) }
     ensures fault { result ≡ Err Unread.Fault → Keeps (I.left source.old) (I.left source.new) }
@@ -106,7 +110,7 @@ pub fn serve<R: Routes, I: Source, O: Sink>(
     ensures writes { O.faulted sink.old ≤ O.faulted sink.new }
     ensures write_fault { result ≡ Served.WriteFault → Rose (O.faulted sink.old) (O.faulted sink.new) }
 {
-    let mut waiting = Waiting::new(alloc);
+    let mut waiting = PendingBytes::new(alloc);
     let mut searched = 0;
     let mut taken = 0;
     while taken < MOST {

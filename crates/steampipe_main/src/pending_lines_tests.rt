@@ -1,4 +1,5 @@
-use crate::pending_lines::{LineEnd, PendingLines};
+use crate::pending_lines::{LineEnd, next_line};
+use byte_lines::PendingBytes;
 use std::alloc::Global;
 use std::io::{self, ErrorKind, Read};
 use std::test::Fail;
@@ -32,10 +33,10 @@ fn lines_of(alloc: Global, text: &[u8], size: usize) -> Result<Vec<u8>, Fail> {
         size,
         interrupts: false,
     };
-    let mut pending = PendingLines::new(alloc);
+    let mut pending = PendingBytes::new(alloc);
     let mut lines = Vec::new(alloc);
     for _ in 0..10 {
-        match pending.next_line(alloc, &mut from) {
+        match next_line(alloc, &mut pending, &mut from) {
             Ok(line) => {
                 lines.extend_from_slice(line.as_slice())?;
                 lines.push(b'|')?;

@@ -2,8 +2,9 @@ ghost use Rattle.std.specs.Prelude.{◌≡◌, ◌≤◌, [], false};
 ghost use Rattle.sp_outside.specs.Causes.{up};
 
 use crate::child_log::ChildLog;
-use crate::pending_lines::{LineEnd, PendingLines};
+use crate::pending_lines::{LineEnd, next_line};
 use crate::program::{Program, Streams, send_line, start_program};
+use byte_lines::PendingBytes;
 use sp_outside::{Child, ChildEnd, Failed};
 use sp_value::Text;
 use sp_world::Untold;
@@ -31,7 +32,7 @@ pub(crate) struct PipedChild<R: Processes + Clock + Copy> {
     streams: Option<Streams<R>>,
     program: Option<Program<R>>,
     log: ChildLog<R>,
-    pending: PendingLines,
+    pending: PendingBytes,
     runs: bool,
     faults: u64,
     sent: u64,
@@ -66,7 +67,7 @@ impl<R: Processes + Clock + Copy> PipedChild<R> {
             streams: None,
             program: None,
             log,
-            pending: PendingLines::new(alloc),
+            pending: PendingBytes::new(alloc),
             runs: false,
             faults: 0,
             sent: 0,
@@ -215,7 +216,7 @@ impl<R: Processes + Clock + Copy> Child<Untold> for PipedChild<R> {
     fn receive(&mut self, alloc: Global) -> Result<Vec<u8>, ChildEnd> {
         if self.runs {
             if let Some(streams) = &mut self.streams {
-                match self.pending.next_line(alloc, &mut streams.output) {
+                match next_line(alloc, &mut self.pending, &mut streams.output) {
                     Ok(line) => {
                         self.given = self.given.saturating_add(1);
                         self.last = Some(Snapshot::of(&line));
@@ -224,7 +225,7 @@ impl<R: Processes + Clock + Copy> Child<Untold> for PipedChild<R> {
                     }
                     Err(LineEnd::Memory) => return Err(ChildEnd::Memory),
                     Err(LineEnd::Fault(error)) => {
-                        self.log.not_received(&error, self.pending.waiting());
+                        self.log.not_received(&error, self.pending.bytes());
                     }
                 }
             }

@@ -4,7 +4,8 @@ use Rattle.std.specs.Io.KnownBytes.{Appends}
 use Rattle.std.proofs.KnownBytes.{Appends-trans}
 use Rattle.sp_outside.specs.Writing.{GrewByPrefix}
 use Rattle.sp_world.specs.ReplyLines.{Item}
-use Rattle.plugin_kit.specs.Replies.{line_text, items_text}
+use Rattle.plugin_kit.specs.Replies.{line_text}
+use Rattle.plugin_kit.specs.Said.{items_text}
 use Rattle.plugin_kit.proofs.Items.{items_to, items_at}
 use Rattle.plugin_kit.proofs.Writing.{begun_after, begun_more}
 use Rattle.plugin_kit.proofs.answering.say_items.Goals as goal

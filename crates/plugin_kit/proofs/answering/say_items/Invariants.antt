@@ -1,7 +1,7 @@
 -- The items so far were written.
 use Rattle.std.proofs.Common.{◌≤◌, take}
 use Rattle.std.specs.Io.KnownBytes.{Appends}
-use Rattle.plugin_kit.specs.Replies.{items_text}
+use Rattle.plugin_kit.specs.Said.{items_text}
 use Rattle.plugin_kit.proofs.answering.say_items.Given as goal
 
 abbrev pub invariant-loop-item : goal.invariant-loop-item

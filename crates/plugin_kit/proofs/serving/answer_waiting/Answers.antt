@@ -2,7 +2,7 @@ use Rattle.std.proofs.Common.{◌≡◌, ◌<◌, take, length, subst}
 use Rattle.std.specs.Prelude.{List, ℕ, IfSome}
 use Rattle.plugin_kit.specs.Lines.{kept}
 use Rattle.plugin_kit.specs.Steps.{StopsAtLine, bad_line}
-use Rattle.plugin_kit.proofs.Feeds.{no_feed}
+use Rattle.byte_lines.proofs.Feeds.{no_feed}
 use Rattle.plugin_kit.proofs.Steps.{stop_at_line, stop_at_long}
 use Rattle.plugin_kit.proofs.serving.answer_waiting.Goals as goal
 

@@ -1,7 +1,7 @@
 -- The lines so far were answered, and what was searched has no line feed.
 use Rattle.std.proofs.Common.{◌≤◌, length}
 use Rattle.std.specs.List.{position_or_len}
-use Rattle.plugin_kit.specs.Lines.{is_feed}
+use Rattle.byte_lines.specs.Lines.{is_feed}
 use Rattle.plugin_kit.specs.Steps.{HasPassed}
 use Rattle.plugin_kit.proofs.serving.answer_waiting.Given as goal
 

@@ -2,7 +2,7 @@ use Rattle.std.proofs.Common.{◌≡◌, ◌+◌, ◌≤◌, ◌<◌, ◌^◌, �
 use Rattle.std.specs.Prelude.{List, ℕ}
 use Rattle.std.specs.Io.KnownBytes.{IsAtEnd}
 use Rattle.std.specs.List.{position_or_len}
-use Rattle.plugin_kit.specs.Lines.{is_feed}
+use Rattle.byte_lines.specs.Lines.{is_feed}
 use Rattle.plugin_kit.specs.Serving.{IsAnswered}
 use Rattle.plugin_kit.proofs.Steps.{serving_passed, serving_read, searched_later, served_at_end, served_at_stop, served_at_fault, served_at_memory, served_at_limit}
 use Rattle.plugin_kit.proofs.serving.serve.Goals as goal

@@ -1,7 +1,7 @@
 -- So many bytes were taken, the whole lines among them were answered, and what was searched has no line feed.
 use Rattle.std.proofs.Common.{◌≤◌, ◌-◌, ◌^◌}
 use Rattle.std.specs.List.{position_or_len}
-use Rattle.plugin_kit.specs.Lines.{is_feed}
+use Rattle.byte_lines.specs.Lines.{is_feed}
 use Rattle.plugin_kit.specs.Steps.{IsServing}
 use Rattle.plugin_kit.proofs.serving.serve.Given as goal
 

@@ -1,8 +1,8 @@
 use Rattle.std.proofs.Common.{◌≡◌, List, ℕ, position, ◌∙◌, ap, drop, take, length, ◌-◌}
 use Rattle.std.proofs.lemmas.List.{take_rest}
-use Rattle.plugin_kit.specs.Lines.{is_feed}
-use Rattle.plugin_kit.proofs.Feeds.{found_past, missed_past}
-use Rattle.plugin_kit.proofs.waiting.Waiting.find_feed.Goals as goal
+use Rattle.byte_lines.specs.Lines.{is_feed}
+use Rattle.byte_lines.proofs.Feeds.{found_past, missed_past}
+use Rattle.byte_lines.proofs.pending.PendingBytes.find_feed.Goals as goal
 
 -- the bytes from `n` on
 tail : (n : ℕ) (ys xs : List ℕ) → ys ≡ xs → position is_feed (take (length ys - n) (drop n ys)) ≡ position is_feed (drop n xs)

@@ -1,7 +1,7 @@
--- Where the first line feed stands, and what reading more does to the bytes that wait.
+-- Where the first line feed stands.
 use Rattle.std.proofs.Common.{◌≡◌, ℕ, zero, suc, ◌+◌, ◌≤◌, Bool, true, false, not, cond, List, [], ◌∷◌, ◌++◌, length, drop, None, Some, position, length-drop, arith}
 use Rattle.std.specs.List.{position_or_len}
-use Rattle.plugin_kit.specs.Lines.{is_feed}
+use Rattle.byte_lines.specs.Lines.{is_feed}
 
 -- ---- the first line feed
 
