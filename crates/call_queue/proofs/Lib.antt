@@ -1,0 +1,3 @@
+pub mod ByDue
+pub mod Holding
+pub mod Picks

@@ -1,0 +1,4 @@
+pub mod Order
+pub mod Lines
+pub mod Picking
+pub mod Turns
