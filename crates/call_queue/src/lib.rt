@@ -6,5 +6,10 @@
 
 mod jobs;
 mod line;
+mod lines;
 mod picked;
+mod queue;
 mod turns;
+
+pub use picked::Picked;
+pub use queue::Queue;
