@@ -1,0 +1,4 @@
+pub mod ByDue
+pub mod Holding
+pub mod Picks
+pub mod Naming
