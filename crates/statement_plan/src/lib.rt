@@ -10,4 +10,5 @@ mod conjuncts;
 mod layout;
 mod placing;
 mod reading;
+mod sources;
 
