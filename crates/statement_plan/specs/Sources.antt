@@ -64,15 +64,57 @@ abbrev pub is_sent_by : List KeyDecl → Option PlanCondition → Bool
 is_sent_by keys None = false
 is_sent_by keys (Some c) = is_sent_on keys c
 
-abbrev pub is_list_of : List BoundSource → ℕ → List ℕ → BoundExpr → Bool
-is_list_of sources k column e = list_all (λ name. bytes_eq name column) (listed_from sources k (e ∷ [])) && is_some (list_of sources k e)
+abbrev pub lists : List ℕ → Option (List ℕ × List Cell) → Bool
+lists column None = false
+lists column (Some list) = bytes_eq list.0 column
+
+abbrev pub fanned_by : List BoundSource → ℕ → Option (List ℕ) → BoundExpr → Bool
+fanned_by sources k None e = false
+fanned_by sources k (Some column) e = lists column (list_of sources k e)
 
 -- the conjuncts without the first list that is fanned out
 abbrev pub without_fan : List BoundSource → ℕ → Option (List ℕ) → List BoundExpr → List BoundExpr
 without_fan sources k None es = es
 without_fan sources k (Some column) [] = []
-without_fan sources k (Some column) (e ∷ es) = if is_list_of sources k column e then es else e ∷ without_fan sources k (Some column) es
+without_fan sources k (Some column) (e ∷ es) = if lists column (list_of sources k e) then es else e ∷ without_fan sources k (Some column) es
 
 -- each conjunct is sent or fanned out
 abbrev pub are_all_sent : List KeyDecl → List BoundSource → List (List (List ℕ)) → ℕ → Option (List ℕ) → List BoundExpr → Bool
 are_all_sent keys sources layout k fan es = list_all (λ e. is_sent_by keys (condition_in sources layout k e)) (without_fan sources k fan es)
+
+abbrev pub is_single : List BoundSource → Bool
+is_single (s ∷ []) = true
+is_single _ = false
+
+abbrev pub is_unordered : Bound → Bool
+is_unordered b = length b.order == 0
+
+-- a limit is given to the scans where there is one source, no order, and no conjunct that is tested later
+abbrev pub pushed_limit : List KeyDecl → Bound → ℕ → Option (List ℕ) → Option ℕ
+pushed_limit keys b k fan =
+    if is_single b.sources && (is_unordered b && are_all_sent keys b.sources (layout_of b) k fan (conjuncts_of b)) then b.limit else None
+
+-- ---- a source
+
+abbrev pub asked_for : Bound → ℕ → List Condition
+asked_for b k = conditions_of (conditions_from b.sources (layout_of b) k (conjuncts_of b))
+
+abbrev pub listed_for : Bound → ℕ → List (List ℕ)
+listed_for b k = listed_from b.sources k (conjuncts_of b)
+
+-- how the items of a source are asked for, or the keys that it lacks
+abbrev pub choice_for : Bound → ℕ → TableDecl → Result Access (List (List ℕ))
+choice_for b k table = choose table (asked_for b k) (listed_for b k)
+
+-- the k-th source of the plan
+pub record IsSourceOf (b : Bound) (k : ℕ) (s : BoundSource) (p : PlanSource) : Type 0 where
+  pub connections : p.connections ≡ s.members
+  pub table : arc_value p.table ≡ s.table
+  pub access : choice_for b k s.table ≡ Ok p.access
+  pub columns : p.columns ≡ columns_for b.sources (named b) k s.table
+  pub subset : p.subset ≡ subset_for s.table p.access
+  pub keys : keys_for s.table p.access ≡ Some p.keys
+  pub conditions : p.conditions ≡ sent_from p.keys b.sources (layout_of b) k (conjuncts_of b)
+  pub fan : p.fan ≡ fan_by b.sources k (conjuncts_of b) (fan_for s.table p.access (listed_for b k))
+  pub limit : p.limit ≡ pushed_limit p.keys b k (fan_for s.table p.access (listed_for b k))
+  pub tests : p.tests ≡ tests_from b.sources (layout_of b) k (conjuncts_of b)
