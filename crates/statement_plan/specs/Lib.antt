@@ -2,3 +2,4 @@ pub mod Conjuncts
 pub mod Columns
 pub mod Reading
 pub mod Placed
+pub mod Sources

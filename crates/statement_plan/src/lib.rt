@@ -8,6 +8,8 @@
 mod columns;
 mod conjuncts;
 mod layout;
+mod limits;
 mod placing;
 mod reading;
+mod sources;
 
