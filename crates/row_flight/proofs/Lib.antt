@@ -7,3 +7,5 @@ pub mod Heard
 pub mod Viewing
 pub mod Stepping
 pub mod Answering
+pub mod ListedCalls
+pub mod ListedRows

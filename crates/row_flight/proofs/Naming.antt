@@ -27,6 +27,11 @@ get_at [] k x d e = absurd (cc)
 get_at (y ∷ ys) zero x d e = cc
 get_at (y ∷ ys) (suc k) x d e = get_at ys k x d e
 
+pub get_within : {X : Type 0} (xs : List X) (k : ℕ) (d : X) → k < length xs → slice_get xs k ≡ Some (get_or xs k d)
+get_within [] k d l = absurd (omega (arith, l))
+get_within (x ∷ xs) zero d l = refl
+get_within (x ∷ xs) (suc k) d l = get_within xs k d (omega (arith, l))
+
 pub get_mapped : {X Y : Type 0} (h : X → Y) (xs : List X) (k : ℕ) (x : X) (d : Y) → slice_get xs k ≡ Some x → get_or (map h xs) k d ≡ h x
 get_mapped h [] k x d e = absurd (cc)
 get_mapped h (y ∷ ys) zero x d e = let s : y ≡ x = cc in ap h s

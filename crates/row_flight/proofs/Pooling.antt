@@ -152,7 +152,7 @@ module _ (plan : Plan) (window number : ℕ) (p q : Pool RowCalls) (keys : List 
 
 -- ---- the first row is let go
 
-new_differs : (key : Key) (keys : List Key) → IsNew key keys → (k : Key) → Among k keys → k ≢ key
+pub new_differs : (key : Key) (keys : List Key) → IsNew key keys → (k : Key) → Among k keys → k ≢ key
 new_differs key keys new k a e = new_at key keys new a.0 (a.1 ∙ ap (λ z. Some z) e)
 
 past_first : (key : Key) (keys : List Key) (k : Key) → k ≢ key → (place : ℕ) → slice_get (key ∷ keys) place ≡ Some k → Among k keys
@@ -186,7 +186,7 @@ module _ (plan : Plan) (window number : ℕ) (p q : Pool RowCalls) (key : Key) (
 
 -- ---- one row is another
 
-row_first : (key : Key) (o : Option RowCalls) (rest : List Seated) → with_row key o rest ≡ with_row key o [] ++ rest
+pub row_first : (key : Key) (o : Option RowCalls) (rest : List Seated) → with_row key o rest ≡ with_row key o [] ++ rest
 row_first key None rest = refl
 row_first key (Some row) rest = refl
 

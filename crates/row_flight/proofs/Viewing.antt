@@ -17,7 +17,8 @@ use Rattle.row_flight.specs.Rows.{attempt_in, with_attempt, slot_of, attempt_of,
 use Rattle.row_flight.specs.declared.attempt.Attempt.{Attempt}
 use Rattle.row_flight.specs.declared.row.RowCalls.{RowCalls}
 
-at_other : (slots : List (Option ℕ)) (attempts : List Attempt) (k slot : ℕ) (a : Attempt) → AreApart slots → get_or slots k None ≡ Some slot → (j : ℕ) → (j ≡ k → ⊥) → (t : Option ℕ) → get_or slots j None ≡ t
+-- what stands in the slots of other functions
+pub at_other : (slots : List (Option ℕ)) (attempts : List Attempt) (k slot : ℕ) (a : Attempt) → AreApart slots → get_or slots k None ≡ Some slot → (j : ℕ) → (j ≡ k → ⊥) → (t : Option ℕ) → get_or slots j None ≡ t
     → attempt_in (set attempts slot a) t ≡ attempt_in attempts t
 at_other slots attempts k slot a apart at j other None is = refl
 at_other slots attempts k slot a apart at j other (Some s) is = get_or-set_other attempts slot s a fresh (λ e. other (apart j k slot (is ∙ ap (λ n. Some n) e) at))

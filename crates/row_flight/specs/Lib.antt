@@ -4,3 +4,4 @@ pub mod Flying
 pub mod Pooled
 pub mod Hearing
 pub mod Laws
+pub mod Jobs

@@ -61,3 +61,7 @@ pub record Rewrites (old new : Pool RowCalls) (key : Key) (row : RowCalls) : Typ
   pub used : taken new ≡ taken old
   pub room : new.count ≡ old.count
   pub last : new.drawn ≡ old.drawn
+
+-- for private clauses: each of these keys shows a row
+abbrev pub RowsShown : Pool RowCalls → List Key → Type 0
+RowsShown p keys = (place : ℕ) (key : Key) → slice_get keys place ≡ Some key → (row : RowCalls) × (shown p key ≡ Some row) × IsRow row

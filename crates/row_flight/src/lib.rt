@@ -20,5 +20,6 @@ pub use frame::{CallFrame, JobList, Taken, Wanted};
 pub use row::RowCalls;
 
 mod laws;
+mod listing;
 
 pub use laws::flight_goes_on;
