@@ -9,3 +9,6 @@ pub mod Stepping
 pub mod Answering
 pub mod ListedCalls
 pub mod ListedRows
+pub mod Soonest
+pub mod Fresh
+pub mod FirstRow

@@ -5,3 +5,4 @@ pub mod Pooled
 pub mod Hearing
 pub mod Laws
 pub mod Jobs
+pub mod Dues

@@ -5,12 +5,14 @@ ghost use Rattle.hydrate_graph.specs.Graphs.{Plan, is_ready};
 ghost use Rattle.row_pool.specs.Pools.{shown};
 ghost use Rattle.scan_laws.specs.Flights.{AreApart};
 ghost use Rattle.scan_laws.specs.Scans.{AllAgree};
+ghost use Rattle.scan_laws.specs.Steps.{fresh_row};
 ghost use Rattle.sp_model.specs.Settling.{Answers};
 ghost use Rattle.sp_model.specs.declared.declaration.TableDecl.{TableDecl};
 ghost use Rattle.sp_model.specs.declared.scan.ScanRequest.{ScanRequest};
 ghost use Rattle.sp_world.specs.Pieces.{IsSoundPiece};
 ghost use Rattle.row_flight.specs.Attempts.{IsAttempt};
-ghost use Rattle.row_flight.specs.Flying.{InFlight, Seated, Puts, IsOf, Sits, IsAwaited, first_graph, rows_of, heard_at, key_at};
+ghost use Rattle.row_flight.specs.Dues.{due_of, key_due};
+ghost use Rattle.row_flight.specs.Flying.{InFlight, Seated, Puts, FirstStands, IsOf, Sits, IsAwaited, first_graph, rows_of, heard_at, key_at};
 ghost use Rattle.row_flight.specs.Hearing.{IsPieceOfSeen, AllHear, Keeps};
 ghost use Rattle.row_flight.specs.Jobs.{AreListed, IsAllListed, RowLists, Lists, PoolLists, RowsListed};
 ghost use Rattle.row_flight.specs.Pooled.{Rewrites, RowsShown, IsFlight};
@@ -18,6 +20,7 @@ ghost use Rattle.row_flight.specs.Rows.{is_open, row_hears, attempt_of, IsRow, I
 ghost use Rattle.row_flight.specs.declared.row.RowCalls.{RowCalls};
 ghost use Rattle.row_flight.specs.declared.frame.Taken.TheVariants as taken;
 
+use crate::dues::sooner;
 use crate::frame::{CallFrame, JobList, Taken};
 use crate::row::RowCalls;
 use hydrate_graph::{RowGraph, RowPlan};
@@ -124,6 +127,9 @@ impl Flight {
     pub fn put(&mut self, alloc: Global, item: Cell) -> Result<(), Cell>
         requires { length self.old.rows < self.old.window }
         ensures ok { OnOk result (Puts self.old self.new item) }
+        // To the laws of a scan it is a row of which nothing is known.
+        ensures view { OnOk result (rows_of self.new ≡ rows_of self.old ++ fresh_row item ∷ []) }
+        ensures hear { (table : TableDecl) (answers : Answers) → AllHear table answers self.old.rows → OnOk result (AllHear table answers self.new.rows) }
         ensures err { OnErr result (self.new ≡ self.old) }
         ensures handed_back { IfErr result (λ back. back ≡ item) }
     {
@@ -141,7 +147,9 @@ impl Flight {
 
     /// The first row.
     pub fn first(&self) -> Option<&RowGraph>
-        ensures { option_copied result ≡ first_graph self.now.rows }
+        ensures graph { option_copied result ≡ first_graph self.now.rows }
+        // To the laws of a scan it stands as its graph does.
+        ensures row { (table : TableDecl) (request : ScanRequest) → IsOf table request self.now → FirstStands table request self.now.rows (option_copied result) }
     {
         let Some(key) = self.order.front() else {
             return None;
@@ -171,6 +179,18 @@ impl Flight {
     {
         list_all(&mut self.pool, &self.order, alloc, &self.frame, scan, into)?;
         Ok(())
+    }
+
+    /// The least tick for which a call waits: one that was asked again, and of which no piece came since.
+    pub fn due(&self) -> Option<u64>
+        ensures { result ≡ due_of self.now }
+    {
+        let mut least = None;
+        for place in 0..self.order.len() {
+            let key = self.order[place];
+            least = sooner(least, due_at(&self.pool, &key));
+        }
+        least
     }
 
     /// Whether a call is waited for at a seat, and this piece of it is next.
@@ -326,4 +346,15 @@ fn list_all(
         list_at(pool, alloc, &key, frame, scan, into)?;
     }
     Ok(())
+}
+
+/// The least tick for which a call of the row of a key waits.
+fn due_at(pool: &Pool<RowCalls>, key: &Key) -> Option<u64>
+    requires { IfSome (shown pool.now key.now) IsRow }
+    ensures { result ≡ key_due pool.now key.now }
+{
+    match pool.get(key) {
+        Some(row) => row.due(),
+        None => None,
+    }
 }
