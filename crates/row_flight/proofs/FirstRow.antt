@@ -1,5 +1,5 @@
 -- The first row in flight.
-use Rattle.std.proofs.Common.{◌≡◌, ℕ, List, [], ◌∷◌, Option, Some, None, refl, sym, ap, subst, ◌∙◌}
+use Rattle.std.proofs.Common.{◌≡◌, ℕ, List, [], ◌∷◌, Some, refl, sym, ap, subst, ◌∙◌}
 use Rattle.std.specs.Prelude.{slice_get}
 use Rattle.sp_model.specs.Hydration.{hydrated_by}
 use Rattle.sp_model.specs.RowOf.{columns_named, row_of}

@@ -1,5 +1,5 @@
 -- The row of an item of which nothing is known.
-use Rattle.std.proofs.Common.{◌≡◌, ℕ, zero, suc, false, List, [], ◌∷◌, ◌++◌, length, get_or, replicate, Option, Some, None, refl, sym, ap, subst, ◌∙◌}
+use Rattle.std.proofs.Common.{◌≡◌, ℕ, zero, suc, List, [], ◌∷◌, ◌++◌, length, get_or, replicate, Option, Some, None, refl, sym, ap, subst, ◌∙◌}
 use Rattle.sp_value.specs.declared.cell.Cell.{Cell}
 use Rattle.sp_model.specs.Settling.{Answers}
 use Rattle.sp_model.specs.declared.declaration.TableDecl.{TableDecl}
@@ -10,8 +10,7 @@ use Rattle.scan_laws.specs.Steps.{fresh_row}
 use Rattle.row_flight.specs.Attempts.{fresh}
 use Rattle.row_flight.specs.Flying.{InFlight, Seated, Puts, rows_in, rows_of}
 use Rattle.row_flight.specs.Hearing.{RowHears, AllHear}
-use Rattle.row_flight.specs.Rows.{attempt_in, slot_of, begun, flight_row, item_of}
-use Rattle.row_flight.specs.declared.attempt.Attempt.{Attempt}
+use Rattle.row_flight.specs.Rows.{attempt_in, slot_of, begun, flight_row}
 
 none_known : (n k : ℕ) → get_or (replicate n (let none : Option Outcome = None in none)) k None ≡ None
 none_known zero k = refl

@@ -1,29 +1,22 @@
 -- Calls of a row are listed, one after another.
-use Rattle.std.proofs.Common.{◌≡◌, ◌<◌, ◌≤◌, ◌+◌, ◌⊎◌, inl, inr, ℕ, zero, suc, Bool, true, false, ◌&&◌, not, cond, List, [], ◌∷◌, ◌++◌, length, get_or, set, map, filter, Option, Some, None, refl, sym, ap, subst, ◌∙◌, arith}
+use Rattle.std.proofs.Common.{◌≡◌, ◌<◌, ◌≤◌, ◌+◌, ◌⊎◌, inl, inr, ℕ, zero, suc, Bool, true, false, ◌&&◌, not, cond, List, [], ◌∷◌, ◌++◌, length, set, filter, Some, refl, sym, ap, subst, ◌∙◌, arith}
 use Rattle.std.specs.Prelude.{slice_get}
 use Rattle.std.proofs.lemmas.Bool.{cases_eq}
-use Rattle.std.proofs.lemmas.List.{append_assoc, get_or-set_same, get_or-set_other}
-use Rattle.sp_model.specs.Settling.{Answers}
-use Rattle.sp_model.specs.declared.declaration.TableDecl.{TableDecl}
-use Rattle.sp_model.specs.declared.scan.ScanRequest.{ScanRequest}
+use Rattle.std.proofs.lemmas.List.{append_assoc, get_or-set_same}
 use Rattle.sp_model.specs.declared.scan.Seat.{Seat}
-use Rattle.hydrate_graph.proofs.Hydrating.{and_left, and_right}
-use Rattle.hydrate_graph.specs.Graphs.{Graph, is_ready, ready_of, counted}
+use Rattle.hydrate_graph.proofs.Hydrating.{and_right}
+use Rattle.hydrate_graph.specs.Graphs.{is_ready, ready_of, counted}
 use Rattle.row_pool.specs.declared.key.Key.{Key}
 use Rattle.scan_laws.proofs.Counting.{count_append}
 use Rattle.scan_laws.specs.Counts.{count}
-use Rattle.scan_laws.specs.Flights.{RowAgrees}
-use Rattle.scan_laws.specs.Reaching.{Made}
 use Rattle.row_flight.proofs.Answering.{attempts_length}
 use Rattle.row_flight.proofs.Stepping.{stays, listed_goes}
 use Rattle.row_flight.proofs.Viewing.{at_other}
 use Rattle.row_flight.specs.Attempts.{fresh, listed_attempt}
 use Rattle.row_flight.specs.Flying.{key_at}
-use Rattle.row_flight.specs.Hearing.{RowGoes}
 use Rattle.row_flight.specs.Jobs.{made_of, IsCallOf, IsRowJob, AreListed, RowLists}
 use Rattle.row_flight.specs.Pooled.{IsSound}
-use Rattle.row_flight.specs.Rows.{flight_row, attempt_in, with_attempt, slot_of, attempt_of, call_of, is_open, is_unlisted, row_lists, IsRow, IsPlaced}
-use Rattle.row_flight.specs.declared.attempt.Attempt.{Attempt}
+use Rattle.row_flight.specs.Rows.{flight_row, attempt_in, with_attempt, slot_of, attempt_of, call_of, is_open, row_lists, IsRow, IsPlaced}
 use Rattle.row_flight.specs.declared.frame.CallFrame.{CallFrame}
 use Rattle.row_flight.specs.declared.frame.Wanted.{Wanted}
 use Rattle.row_flight.specs.declared.row.RowCalls.{RowCalls}

@@ -1,5 +1,5 @@
 -- Rows in a pool, in the order of their keys.
-use Rattle.std.proofs.Common.{◌≡◌, ◌≤◌, ◌<◌, ◌+◌, ◌==◌, ◌&&◌, ◌⊎◌, inl, inr, ℕ, zero, suc, Bool, true, false, List, [], ◌∷◌, ◌++◌, length, map, Option, Some, None, if◌then◌else◌, refl, sym, ap, subst, ◌∙◌, arith}
+use Rattle.std.proofs.Common.{◌≡◌, ◌+◌, ◌==◌, ◌&&◌, ◌⊎◌, inl, inr, ℕ, zero, suc, Bool, true, false, List, [], ◌∷◌, ◌++◌, length, map, Option, Some, None, if◌then◌else◌, refl, sym, ap, subst, ◌∙◌, arith}
 use Rattle.std.specs.Prelude.{slice_get, is_some, ◌≢◌, OnSome}
 use Rattle.std.proofs.lemmas.Bool.{cases_eq}
 use Rattle.std.proofs.lemmas.List.{length-replicate}
@@ -11,7 +11,7 @@ use Rattle.hydrate_graph.specs.Graphs.{Plan}
 use Rattle.row_pool.specs.Pools.{Pool, shown, taken, Changes}
 use Rattle.row_pool.specs.declared.key.Key.{Key}
 use Rattle.row_flight.specs.Flying.{Seated, key_at, is_at, hears_at}
-use Rattle.row_flight.specs.Pooled.{with_row, seated, IsNew, AreApart, Among, AllShow, IsSound, IsFlight, Rewrites}
+use Rattle.row_flight.specs.Pooled.{with_row, seated, IsNew, AreApart, Among, AllShow, IsFlight, Rewrites}
 use Rattle.row_flight.specs.Attempts.{fresh}
 use Rattle.row_flight.specs.Rows.{begun, row_hears, IsRow}
 use Rattle.row_flight.specs.declared.row.RowCalls.{RowCalls}

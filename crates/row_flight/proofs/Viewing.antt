@@ -1,14 +1,13 @@
 -- A row after one function's attempt or outcome was replaced.
-use Rattle.std.proofs.Common.{◌≡◌, ◌<◌, ◌⊎◌, inl, inr, ℕ, Bool, true, false, List, length, get_or, set, Option, Some, None, if◌then◌else◌, bytes_eq, refl, sym, ap, subst, ◌∙◌}
+use Rattle.std.proofs.Common.{◌≡◌, ℕ, Bool, true, false, List, get_or, set, Option, Some, None, if◌then◌else◌, bytes_eq, refl, sym, ap, ◌∙◌}
 use Rattle.std.specs.Prelude.{slice_get}
-use Rattle.std.proofs.lemmas.Bool.{cases_eq}
 use Rattle.std.proofs.lemmas.List.{get_or-set_same, get_or-set_other}
 use Rattle.std.proofs.lemmas.Slice.Eq.{bytes_eq-Decides}
 use Rattle.sp_model.proofs.Lawful.{found_name}
 use Rattle.sp_model.specs.declared.declaration.FunctionDecl.{FunctionDecl}
 use Rattle.sp_model.specs.declared.outcome.Outcome.{Outcome}
 use Rattle.hydrate_graph.proofs.Numbering.{found_at}
-use Rattle.hydrate_graph.specs.Graphs.{Graph, known}
+use Rattle.hydrate_graph.specs.Graphs.{known}
 use Rattle.hydrate_graph.specs.Numbers.{number_of}
 use Rattle.hydrate_graph.specs.Plans.{AreApart}
 use Rattle.scan_laws.specs.Steps.{put}

@@ -1,5 +1,5 @@
 -- Calls that are listed.
-use Rattle.std.specs.Prelude.{◌≡◌, ◌<◌, ℕ, suc, Bool, true, false, List, ◌++◌, length, map, Some, slice_get}
+use Rattle.std.specs.Prelude.{◌≡◌, ◌<◌, ℕ, suc, true, false, List, ◌++◌, length, map, Some, slice_get}
 use Rattle.sp_model.specs.RowOf.{columns_named}
 use Rattle.sp_model.specs.Settling.{Answers}
 use Rattle.sp_model.specs.declared.declaration.TableDecl.{TableDecl}

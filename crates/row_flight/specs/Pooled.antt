@@ -1,5 +1,5 @@
 -- For the model of a flight: rows in a pool, in the order of their keys.
-use Rattle.std.specs.Prelude.{◌≡◌, ◌≤◌, ◌<◌, ℕ, true, Bool, List, [], ◌∷◌, length, Option, Some, None, slice_get, is_some}
+use Rattle.std.specs.Prelude.{◌≡◌, ℕ, true, List, [], ◌∷◌, length, Option, Some, None, slice_get, is_some}
 use Rattle.std.specs.List.{list_all}
 use Rattle.sp_model.specs.Calls.{is_wanted}
 use Rattle.sp_model.specs.Hydration.{find_function}

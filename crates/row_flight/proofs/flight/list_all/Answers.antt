@@ -1,5 +1,4 @@
-use Rattle.std.proofs.Common.{◌≡◌, ◌<◌, length, Some, refl, sym, ap, ◌∙◌, arith}
-use Rattle.std.specs.Prelude.{slice_get}
+use Rattle.std.proofs.Common.{◌<◌, length, arith}
 use Rattle.hydrate_graph.proofs.Rows.{get_is}
 use Rattle.row_flight.proofs.ListedRows.{lists_none, listed_more, shown_more, pool_then}
 use Rattle.row_flight.specs.Pooled.{seated}

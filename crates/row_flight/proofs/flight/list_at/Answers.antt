@@ -1,5 +1,4 @@
 use Rattle.std.proofs.Common.{◌≡◌, Some, refl, subst, ◌∙◌}
-use Rattle.row_pool.specs.Pools.{shown}
 use Rattle.row_flight.specs.Jobs.{RowLists}
 use Rattle.row_flight.proofs.flight.list_at.Goals as goal
 

@@ -1,4 +1,3 @@
-use Rattle.std.proofs.Common.{◌≡◌, Some, sym, ap, ◌∙◌}
 use Rattle.std.specs.Arc.{arc_value}
 use Rattle.row_flight.proofs.ListedCalls.{within_get}
 use Rattle.row_flight.proofs.ListedRows.{flight_shows}

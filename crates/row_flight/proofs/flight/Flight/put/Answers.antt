@@ -1,11 +1,11 @@
-use Rattle.std.proofs.Common.{◌≡◌, ◌<◌, ◌+◌, ◌++◌, ◌∷◌, [], List, length, Some, None, refl, sym, ap, subst, ◌∙◌, arith}
+use Rattle.std.proofs.Common.{◌≡◌, ◌++◌, ◌∷◌, [], List, Some, None, refl, sym, ap, ◌∙◌, arith}
 use Rattle.std.specs.Arc.{arc_value}
-use Rattle.row_pool.specs.Pools.{Pool, shown}
+use Rattle.row_pool.specs.Pools.{shown}
 use Rattle.row_flight.proofs.Fresh.{put_view, put_hears}
 use Rattle.row_flight.proofs.Pooling.{seated_length, seated_shows, begun_row, pushed, pushed_rows}
 use Rattle.row_flight.specs.Flying.{InFlight, Seated}
-use Rattle.row_flight.specs.Pooled.{seated, IsFlight}
-use Rattle.row_flight.specs.Rows.{begun, IsRow}
+use Rattle.row_flight.specs.Pooled.{seated}
+use Rattle.row_flight.specs.Rows.{IsRow}
 use Rattle.row_flight.proofs.flight.Flight.put.Goals as goal
 
 pub unreachable-requires : goal.unreachable-requires

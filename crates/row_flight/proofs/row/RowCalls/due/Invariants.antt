@@ -1,6 +1,6 @@
 use Rattle.std.proofs.Common.{◌≡◌, map, drop}
 use Rattle.hydrate_graph.specs.Graphs.{ready_of}
-use Rattle.row_flight.specs.Dues.{sooner, soonest, tick_of, row_due}
+use Rattle.row_flight.specs.Dues.{sooner, soonest, tick_of}
 use Rattle.row_flight.proofs.row.RowCalls.due.Given as goal
 
 abbrev pub invariant-loop-function : goal.invariant-loop-function

@@ -1,5 +1,4 @@
-use Rattle.std.proofs.Common.{◌≡◌, ◌<◌, length, get_or, true, Some, refl, sym, ap, ◌∙◌, arith}
-use Rattle.std.specs.Prelude.{slice_get}
+use Rattle.std.proofs.Common.{◌≡◌, ◌<◌, length, get_or, Some, sym, ap, ◌∙◌, arith}
 use Rattle.row_flight.proofs.Naming.{get_within}
 use Rattle.row_flight.proofs.ListedCalls.{lists_nothing, lists_then, ready_at, all_listed, done_more}
 use Rattle.row_flight.specs.Flying.{key_at}

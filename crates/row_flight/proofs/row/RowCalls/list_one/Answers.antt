@@ -2,7 +2,7 @@ use Rattle.std.proofs.Common.{◌≡◌, rules, false, refl, sym, ap, subst, ◌
 use Rattle.row_flight.proofs.ListedCalls.{lists_nothing, lists_one}
 use Rattle.row_flight.specs.Flying.{key_at}
 use Rattle.row_flight.specs.Jobs.{RowLists}
-use Rattle.row_flight.specs.Rows.{attempt_of, row_lists}
+use Rattle.row_flight.specs.Rows.{attempt_of}
 use Rattle.row_flight.proofs.row.RowCalls.list_one.Goals as goal
 
 pub returns-then-attempt-clause-lists : goal.returns-then-attempt-clause-lists
