@@ -1,10 +1,9 @@
 -- A piece is taken in at its seat.
-use Rattle.std.proofs.Common.{◌≡◌, ◌+◌, ℕ, suc, Bool, true, false, List, [], ◌∷◌, ◌++◌, length, map, Option, Some, None, Result, Ok, Err, IsTrue, if◌then◌else◌, refl, sym, ap, subst, ◌∙◌, arith}
+use Rattle.std.proofs.Common.{◌≡◌, ℕ, suc, Bool, true, false, List, [], ◌∷◌, length, map, Option, Some, None, Result, Ok, Err, IsTrue, if◌then◌else◌, refl, sym, ap, subst, ◌∙◌, arith}
 use Rattle.std.specs.Prelude.{slice_get, IfSome, OnErr}
 use Rattle.std.proofs.lemmas.Bool.Decides.{Decides-eqb}
 use Rattle.std.proofs.lemmas.List.{length-set}
 use Rattle.sp_model.specs.Settling.{Answers}
-use Rattle.sp_model.specs.declared.call.Call.{Call}
 use Rattle.sp_model.specs.declared.call.CallKey.{CallKey}
 use Rattle.sp_model.specs.declared.call.Piece.{Piece}
 use Rattle.sp_model.specs.declared.declaration.TableDecl.{TableDecl}
@@ -16,17 +15,15 @@ use Rattle.hydrate_graph.specs.Graphs.{Plan, Graph, is_ready}
 use Rattle.row_pool.specs.Pools.{Pool, shown}
 use Rattle.row_pool.specs.declared.key.Key.{Key}
 use Rattle.scan_laws.proofs.Counting.{count_append}
-use Rattle.scan_laws.specs.Counts.{count}
 use Rattle.scan_laws.specs.Flights.{row_listed, AreApart, RowAgrees}
-use Rattle.scan_laws.specs.Reaching.{Made}
 use Rattle.scan_laws.specs.Scans.{items_of, flight_listed, AllAgree}
-use Rattle.row_flight.proofs.Pooling.{seated_shows, shown_sits, heard_rows}
+use Rattle.row_flight.proofs.Pooling.{seated_shows, shown_sits}
 use Rattle.row_flight.proofs.Stepping.{stays, piece_goes}
-use Rattle.row_flight.specs.Attempts.{is_next, heard_outcome, heard_attempt, IsAttempt}
+use Rattle.row_flight.specs.Attempts.{IsAttempt}
 use Rattle.row_flight.specs.Flying.{InFlight, Seated, IsOf, Sits, IsAwaited, rows_in, key_at, is_at, hears_at}
 use Rattle.row_flight.specs.Hearing.{IsPieceOfSeen, AllHear, RowHears, RowGoes, Keeps}
 use Rattle.row_flight.specs.Pooled.{seated, IsFlight, IsSound}
-use Rattle.row_flight.specs.Rows.{flight_row, attempt_of, with_attempt, slot_of, settled_so, rule_at, call_of, is_open, row_hears, RowAwaits, IsRow, IsPlaced}
+use Rattle.row_flight.specs.Rows.{flight_row, attempt_of, with_attempt, slot_of, settled_so, call_of, row_hears, RowAwaits, IsRow, IsPlaced}
 use Rattle.row_flight.specs.declared.attempt.Attempt.{Attempt}
 use Rattle.row_flight.specs.declared.frame.CallFrame.{CallFrame}
 use Rattle.row_flight.specs.declared.row.RowCalls.{RowCalls}

@@ -1,5 +1,5 @@
 -- Attempts of which nothing came.
-use Rattle.std.proofs.Common.{◌≡◌, ◌<◌, ◌≤◌, ◌^◌, ℕ, zero, suc, List, [], ◌∷◌, length, get_or, replicate, arith}
+use Rattle.std.proofs.Common.{ℕ, zero, suc, List, ◌∷◌, replicate, arith}
 use Rattle.std.specs.Prelude.{All}
 use Rattle.row_flight.specs.Attempts.{fresh, IsAttempt}
 use Rattle.row_flight.specs.declared.attempt.Attempt.{Attempt}

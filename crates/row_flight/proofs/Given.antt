@@ -1,5 +1,5 @@
 -- A function that is ready in its row's graph is ready by what is known of the row.
-use Rattle.std.proofs.Common.{◌≡◌, ◌≤◌, ◌<◌, ℕ, zero, suc, Bool, true, false, ◌&&◌, List, [], ◌∷◌, length, get_or, Option, Some, None, refl, sym, ap, subst, ◌∙◌, arith}
+use Rattle.std.proofs.Common.{◌≡◌, ◌<◌, ℕ, Bool, true, false, ◌&&◌, List, [], ◌∷◌, length, get_or, Option, Some, None, refl, sym, ap, subst, ◌∙◌, arith}
 use Rattle.std.specs.Prelude.{slice_get}
 use Rattle.std.specs.List.{list_all}
 use Rattle.sp_value.specs.declared.cell.Cell.{Cell}
@@ -19,7 +19,7 @@ use Rattle.hydrate_graph.proofs.Numbering.{found_at}
 use Rattle.hydrate_graph.proofs.Settling.{ready_none, ready_wanted, ready_gave}
 use Rattle.hydrate_graph.specs.Following.{by_known, InOrder}
 use Rattle.hydrate_graph.specs.Graphs.{Graph, known, is_ready, results_at, wants}
-use Rattle.hydrate_graph.specs.Numbers.{number_of, name_at, name_of, depends_at}
+use Rattle.hydrate_graph.specs.Numbers.{number_of, depends_at}
 use Rattle.scan_laws.proofs.Hydrating.{deeper}
 use Rattle.scan_laws.specs.Flights.{status, is_given, AreApart, RowAgrees}
 use Rattle.scan_laws.specs.Laws.{IsReady}

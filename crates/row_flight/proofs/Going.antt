@@ -1,25 +1,17 @@
 -- Rows in flight that go on.
-use Rattle.std.proofs.Common.{◌≡◌, ◌+◌, ◌≤◌, ℕ, Bool, List, [], ◌∷◌, ◌++◌, map, Option, Some, None, refl, sym, ap, subst, ◌∙◌, arith}
-use Rattle.std.proofs.lemmas.List.{append_assoc, map-append}
-use Rattle.sp_value.specs.declared.cell.Cell.{Cell}
-use Rattle.sp_model.specs.Calls.{used, reach}
+use Rattle.std.proofs.Common.{◌≡◌, List, [], ◌∷◌, ◌++◌, Some, None, refl, sym, ap, ◌∙◌, arith}
 use Rattle.sp_model.specs.Settling.{Answers}
 use Rattle.sp_model.specs.declared.declaration.TableDecl.{TableDecl}
-use Rattle.sp_model.specs.declared.outcome.Walk.{Walk}
 use Rattle.sp_model.specs.declared.scan.ScanRequest.{ScanRequest}
 use Rattle.scan_laws.proofs.Counting.{count_append}
 use Rattle.scan_laws.specs.Counts.{count}
-use Rattle.scan_laws.specs.Flights.{row_listed, RowAgrees, RowKeeps}
+use Rattle.scan_laws.specs.Flights.{row_listed, RowAgrees}
 use Rattle.scan_laws.specs.Reaching.{Made}
-use Rattle.scan_laws.specs.Scans.{items_of, flight_listed, AllAgree, reach_at}
-use Rattle.scan_laws.specs.Scans as scans
-use Rattle.scan_laws.specs.States.{FlightRow, Scan}
-use Rattle.scan_laws.specs.Steps.{flown}
+use Rattle.scan_laws.specs.Scans.{items_of, flight_listed, AllAgree}
 use Rattle.row_flight.specs.Flying.{Seated, rows_in}
 use Rattle.row_flight.specs.Hearing.{AllHear, RowHears, RowGoes, Keeps}
 use Rattle.row_flight.specs.Laws.{FlightGoesOn}
 use Rattle.row_flight.specs.Rows.{flight_row}
-use Rattle.row_flight.specs.declared.row.RowCalls.{RowCalls}
 
 pub flight_goes_on : FlightGoesOn
 flight_goes_on table request answers st old new added agrees going is keeps = record {

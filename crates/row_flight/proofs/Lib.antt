@@ -7,3 +7,8 @@ pub mod Heard
 pub mod Viewing
 pub mod Stepping
 pub mod Answering
+pub mod ListedCalls
+pub mod ListedRows
+pub mod Soonest
+pub mod Fresh
+pub mod FirstRow

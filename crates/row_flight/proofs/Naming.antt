@@ -1,5 +1,5 @@
 -- Functions of different names by their numbers, and the functions that those of the columns need.
-use Rattle.std.proofs.Common.{◌≡◌, ◌≤◌, ◌<◌, ℕ, zero, suc, Bool, true, false, ◌&&◌, ◌||◌, not, List, [], ◌∷◌, length, get_or, map, Option, Some, None, if◌then◌else◌, bytes_eq, refl, sym, ap, subst, ◌∙◌, arith}
+use Rattle.std.proofs.Common.{◌≡◌, ◌≤◌, ◌<◌, ℕ, zero, suc, Bool, true, false, ◌||◌, not, List, [], ◌∷◌, length, get_or, map, Option, Some, None, if◌then◌else◌, bytes_eq, refl, sym, ap, subst, ◌∙◌, arith}
 use Rattle.std.specs.Prelude.{slice_get}
 use Rattle.std.specs.List.{list_any, list_all}
 use Rattle.std.proofs.lemmas.Bool.{or_parts, not-true}
@@ -26,6 +26,11 @@ pub get_at : {X : Type 0} (xs : List X) (k : ℕ) (x d : X) → slice_get xs k �
 get_at [] k x d e = absurd (cc)
 get_at (y ∷ ys) zero x d e = cc
 get_at (y ∷ ys) (suc k) x d e = get_at ys k x d e
+
+pub get_within : {X : Type 0} (xs : List X) (k : ℕ) (d : X) → k < length xs → slice_get xs k ≡ Some (get_or xs k d)
+get_within [] k d l = absurd (omega (arith, l))
+get_within (x ∷ xs) zero d l = refl
+get_within (x ∷ xs) (suc k) d l = get_within xs k d (omega (arith, l))
 
 pub get_mapped : {X Y : Type 0} (h : X → Y) (xs : List X) (k : ℕ) (x : X) (d : Y) → slice_get xs k ≡ Some x → get_or (map h xs) k d ≡ h x
 get_mapped h [] k x d e = absurd (cc)

@@ -1,5 +1,5 @@
 -- Rows in a pool, in the order of their keys.
-use Rattle.std.proofs.Common.{◌≡◌, ◌≤◌, ◌<◌, ◌+◌, ◌==◌, ◌&&◌, ◌⊎◌, inl, inr, ℕ, zero, suc, Bool, true, false, List, [], ◌∷◌, ◌++◌, length, map, Option, Some, None, if◌then◌else◌, refl, sym, ap, subst, ◌∙◌, arith}
+use Rattle.std.proofs.Common.{◌≡◌, ◌+◌, ◌==◌, ◌&&◌, ◌⊎◌, inl, inr, ℕ, zero, suc, Bool, true, false, List, [], ◌∷◌, ◌++◌, length, map, Option, Some, None, if◌then◌else◌, refl, sym, ap, subst, ◌∙◌, arith}
 use Rattle.std.specs.Prelude.{slice_get, is_some, ◌≢◌, OnSome}
 use Rattle.std.proofs.lemmas.Bool.{cases_eq}
 use Rattle.std.proofs.lemmas.List.{length-replicate}
@@ -11,7 +11,7 @@ use Rattle.hydrate_graph.specs.Graphs.{Plan}
 use Rattle.row_pool.specs.Pools.{Pool, shown, taken, Changes}
 use Rattle.row_pool.specs.declared.key.Key.{Key}
 use Rattle.row_flight.specs.Flying.{Seated, key_at, is_at, hears_at}
-use Rattle.row_flight.specs.Pooled.{with_row, seated, IsNew, AreApart, Among, AllShow, IsSound, IsFlight, Rewrites}
+use Rattle.row_flight.specs.Pooled.{with_row, seated, IsNew, AreApart, Among, AllShow, IsFlight, Rewrites}
 use Rattle.row_flight.specs.Attempts.{fresh}
 use Rattle.row_flight.specs.Rows.{begun, row_hears, IsRow}
 use Rattle.row_flight.specs.declared.row.RowCalls.{RowCalls}
@@ -152,7 +152,7 @@ module _ (plan : Plan) (window number : ℕ) (p q : Pool RowCalls) (keys : List 
 
 -- ---- the first row is let go
 
-new_differs : (key : Key) (keys : List Key) → IsNew key keys → (k : Key) → Among k keys → k ≢ key
+pub new_differs : (key : Key) (keys : List Key) → IsNew key keys → (k : Key) → Among k keys → k ≢ key
 new_differs key keys new k a e = new_at key keys new a.0 (a.1 ∙ ap (λ z. Some z) e)
 
 past_first : (key : Key) (keys : List Key) (k : Key) → k ≢ key → (place : ℕ) → slice_get (key ∷ keys) place ≡ Some k → Among k keys
@@ -186,7 +186,7 @@ module _ (plan : Plan) (window number : ℕ) (p q : Pool RowCalls) (key : Key) (
 
 -- ---- one row is another
 
-row_first : (key : Key) (o : Option RowCalls) (rest : List Seated) → with_row key o rest ≡ with_row key o [] ++ rest
+pub row_first : (key : Key) (o : Option RowCalls) (rest : List Seated) → with_row key o rest ≡ with_row key o [] ++ rest
 row_first key None rest = refl
 row_first key (Some row) rest = refl
 

@@ -1,11 +1,10 @@
 -- A row goes on: a call of it is listed, or a piece of a call is taken in.
-use Rattle.std.proofs.Common.{◌≡◌, ◌<◌, ◌≤◌, ◌==◌, ℕ, zero, suc, Bool, true, false, ◌&&◌, ◌||◌, not, List, [], ◌∷◌, length, get_or, set, map, Option, Some, None, IsSome, if◌then◌else◌, bytes_eq, refl, sym, ap, subst, ◌∙◌, arith}
-use Rattle.std.specs.Prelude.{slice_get, ◌^◌}
+use Rattle.std.proofs.Common.{◌≡◌, ◌≤◌, ◌==◌, ℕ, zero, suc, Bool, true, false, ◌||◌, List, [], ◌∷◌, length, get_or, set, Option, Some, None, IsSome, if◌then◌else◌, refl, sym, ap, subst, ◌∙◌, arith}
+use Rattle.std.specs.Prelude.{slice_get}
 use Rattle.std.proofs.lemmas.Bool.Decides.{Decides-eqb}
 use Rattle.sp_value.specs.declared.cell.Cell.{Cell}
-use Rattle.sp_value.specs.declared.cell.Cell.TheVariants as cells
 use Rattle.sp_model.specs.Calls.{is_wanted}
-use Rattle.sp_model.specs.Hydration.{results_of, find_function, outcome_of}
+use Rattle.sp_model.specs.Hydration.{outcome_of}
 use Rattle.sp_model.specs.RowOf.{columns_named}
 use Rattle.sp_model.specs.Settling.{Seen, Answers, or_else, rule_of, is_ignored, is_retried, Verdict, Accept, Again, Refuse, Open, judged, settled_by}
 use Rattle.sp_model.specs.declared.call.Call.{Call}
@@ -19,15 +18,14 @@ use Rattle.sp_model.specs.declared.declaration.Rule.{Rule}
 use Rattle.sp_model.specs.declared.declaration.TableDecl.{TableDecl}
 use Rattle.sp_model.specs.declared.outcome.Outcome.{Outcome}
 use Rattle.sp_model.specs.declared.outcome.Results.{Results}
-use Rattle.sp_model.specs.declared.outcome.Results.TheVariants.{Given, Missed, Pending}
-use Rattle.sp_model.specs.declared.outcome.Settled.TheVariants.{Items, Refused}
+use Rattle.sp_model.specs.declared.outcome.Results.TheVariants.{Given}
+use Rattle.sp_model.specs.declared.outcome.Settled.TheVariants.{Items}
 use Rattle.sp_model.specs.declared.scan.ScanRequest.{ScanRequest}
-use Rattle.hydrate_graph.proofs.Hydrating.{and_left, and_right}
-use Rattle.hydrate_graph.specs.Graphs.{Graph, known, is_ready, results_at, rules_in}
+use Rattle.hydrate_graph.specs.Graphs.{known, is_ready, results_at, rules_in}
 use Rattle.hydrate_graph.specs.Numbers.{number_of, name_at, name_of}
 use Rattle.scan_laws.proofs.Rowing.{function_is_listed, function_is_asked_again, function_is_settled}
 use Rattle.scan_laws.specs.Counts.{count}
-use Rattle.scan_laws.specs.Flights.{status, row_listed, AreApart, RowAgrees, RowKeeps}
+use Rattle.scan_laws.specs.Flights.{AreApart, RowAgrees, RowKeeps}
 use Rattle.scan_laws.specs.Laws.{IsReady}
 use Rattle.scan_laws.specs.Reaching.{Made}
 use Rattle.scan_laws.specs.States.{FlightRow}

@@ -1,14 +1,13 @@
 -- A row after one function's attempt or outcome was replaced.
-use Rattle.std.proofs.Common.{◌≡◌, ◌<◌, ◌⊎◌, inl, inr, ℕ, Bool, true, false, List, length, get_or, set, Option, Some, None, if◌then◌else◌, bytes_eq, refl, sym, ap, subst, ◌∙◌}
+use Rattle.std.proofs.Common.{◌≡◌, ℕ, Bool, true, false, List, get_or, set, Option, Some, None, if◌then◌else◌, bytes_eq, refl, sym, ap, ◌∙◌}
 use Rattle.std.specs.Prelude.{slice_get}
-use Rattle.std.proofs.lemmas.Bool.{cases_eq}
 use Rattle.std.proofs.lemmas.List.{get_or-set_same, get_or-set_other}
 use Rattle.std.proofs.lemmas.Slice.Eq.{bytes_eq-Decides}
 use Rattle.sp_model.proofs.Lawful.{found_name}
 use Rattle.sp_model.specs.declared.declaration.FunctionDecl.{FunctionDecl}
 use Rattle.sp_model.specs.declared.outcome.Outcome.{Outcome}
 use Rattle.hydrate_graph.proofs.Numbering.{found_at}
-use Rattle.hydrate_graph.specs.Graphs.{Graph, known}
+use Rattle.hydrate_graph.specs.Graphs.{known}
 use Rattle.hydrate_graph.specs.Numbers.{number_of}
 use Rattle.hydrate_graph.specs.Plans.{AreApart}
 use Rattle.scan_laws.specs.Steps.{put}
@@ -17,7 +16,8 @@ use Rattle.row_flight.specs.Rows.{attempt_in, with_attempt, slot_of, attempt_of,
 use Rattle.row_flight.specs.declared.attempt.Attempt.{Attempt}
 use Rattle.row_flight.specs.declared.row.RowCalls.{RowCalls}
 
-at_other : (slots : List (Option ℕ)) (attempts : List Attempt) (k slot : ℕ) (a : Attempt) → AreApart slots → get_or slots k None ≡ Some slot → (j : ℕ) → (j ≡ k → ⊥) → (t : Option ℕ) → get_or slots j None ≡ t
+-- what stands in the slots of other functions
+pub at_other : (slots : List (Option ℕ)) (attempts : List Attempt) (k slot : ℕ) (a : Attempt) → AreApart slots → get_or slots k None ≡ Some slot → (j : ℕ) → (j ≡ k → ⊥) → (t : Option ℕ) → get_or slots j None ≡ t
     → attempt_in (set attempts slot a) t ≡ attempt_in attempts t
 at_other slots attempts k slot a apart at j other None is = refl
 at_other slots attempts k slot a apart at j other (Some s) is = get_or-set_other attempts slot s a fresh (λ e. other (apart j k slot (is ∙ ap (λ n. Some n) e) at))

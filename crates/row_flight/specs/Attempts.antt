@@ -5,7 +5,6 @@ use Rattle.sp_value.specs.declared.cell.Cell.TheVariants as cells
 use Rattle.sp_model.specs.Delays.{delay_by}
 use Rattle.sp_model.specs.Fields.{or_null}
 use Rattle.sp_model.specs.Settling.{or_else, Verdict, Accept, Again, Refuse, Open, judged}
-use Rattle.sp_model.specs.declared.call.Ending.{Ending}
 use Rattle.sp_model.specs.declared.call.Piece.{Piece}
 use Rattle.sp_model.specs.declared.call.Piece.TheVariants as piece
 use Rattle.sp_model.specs.declared.declaration.Rule.{Rule}

@@ -1,14 +1,15 @@
 -- The rows in flight, in order, and the calls that they wait for.
 use Rattle.std.specs.Prelude.{◌≡◌, ℕ, ◌==◌, Bool, ◌&&◌, List, [], ◌∷◌, ◌++◌, map, Option, Some, None, slice_get, if◌then◌else◌}
 use Rattle.sp_value.specs.declared.cell.Cell.{Cell}
-use Rattle.sp_model.specs.RowOf.{columns_named}
+use Rattle.sp_model.specs.RowOf.{columns_named, row_of}
 use Rattle.sp_model.specs.declared.call.CallKey.{CallKey}
 use Rattle.sp_model.specs.declared.call.Piece.{Piece}
 use Rattle.sp_model.specs.declared.declaration.TableDecl.{TableDecl}
 use Rattle.sp_model.specs.declared.scan.ScanRequest.{ScanRequest}
 use Rattle.sp_model.specs.declared.scan.Seat.{Seat}
-use Rattle.hydrate_graph.specs.Graphs.{Plan, Graph, rules_in}
+use Rattle.hydrate_graph.specs.Graphs.{Plan, Graph, rules_in, row_so_far}
 use Rattle.row_pool.specs.declared.key.Key.{Key}
+use Rattle.scan_laws.specs.Flights.{status}
 use Rattle.scan_laws.specs.States.{FlightRow}
 use Rattle.row_flight.specs.Rows.{flight_row, begun, RowAwaits, row_hears}
 use Rattle.row_flight.specs.declared.frame.CallFrame.{CallFrame}
@@ -52,6 +53,14 @@ first_graph (s ∷ rows) = Some s.row.graph
 
 abbrev pub key_at : Seat → Key
 key_at seat = record { slot = seat.slot; generation = seat.generation }
+
+-- the first row's end is that of its graph
+abbrev pub FirstStands : TableDecl → ScanRequest → List Seated → Option Graph → Type 0
+FirstStands table request (s ∷ rows) (Some g) =
+    (row_of (status table (flight_row s.row)) (columns_named request.columns table.columns) (flight_row s.row).item ≡ row_so_far g) × (g.plan.columns ≡ columns_named request.columns table.columns) × (g.item ≡ s.row.graph.item)
+FirstStands table request (s ∷ rows) None = ⊥
+FirstStands table request [] (Some g) = ⊥
+FirstStands table request [] None = Unit {0}
 
 -- this row sits at the seat
 abbrev pub Sits : InFlight → Seat → RowCalls → Type 0

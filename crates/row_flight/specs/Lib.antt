@@ -4,3 +4,5 @@ pub mod Flying
 pub mod Pooled
 pub mod Hearing
 pub mod Laws
+pub mod Jobs
+pub mod Dues

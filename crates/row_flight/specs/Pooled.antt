@@ -1,5 +1,5 @@
 -- For the model of a flight: rows in a pool, in the order of their keys.
-use Rattle.std.specs.Prelude.{◌≡◌, ◌≤◌, ◌<◌, ℕ, true, Bool, List, [], ◌∷◌, length, Option, Some, None, slice_get, is_some}
+use Rattle.std.specs.Prelude.{◌≡◌, ℕ, true, List, [], ◌∷◌, length, Option, Some, None, slice_get, is_some}
 use Rattle.std.specs.List.{list_all}
 use Rattle.sp_model.specs.Calls.{is_wanted}
 use Rattle.sp_model.specs.Hydration.{find_function}
@@ -61,3 +61,7 @@ pub record Rewrites (old new : Pool RowCalls) (key : Key) (row : RowCalls) : Typ
   pub used : taken new ≡ taken old
   pub room : new.count ≡ old.count
   pub last : new.drawn ≡ old.drawn
+
+-- for private clauses: each of these keys shows a row
+abbrev pub RowsShown : Pool RowCalls → List Key → Type 0
+RowsShown p keys = (place : ℕ) (key : Key) → slice_get keys place ≡ Some key → (row : RowCalls) × (shown p key ≡ Some row) × IsRow row

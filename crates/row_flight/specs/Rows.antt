@@ -1,5 +1,5 @@
 -- A row in flight with the calls of its functions, by the functions' numbers.
-use Rattle.std.specs.Prelude.{◌≡◌, ◌<◌, ◌≤◌, ℕ, suc, Bool, true, false, ◌&&◌, not, List, [], ◌∷◌, length, get_or, replicate, set, Option, Some, None, slice_get, filter, is_none}
+use Rattle.std.specs.Prelude.{◌≡◌, ◌<◌, ℕ, suc, Bool, true, ◌&&◌, not, List, length, get_or, replicate, set, Option, Some, None}
 use Rattle.sp_value.specs.declared.cell.Cell.{Cell}
 use Rattle.sp_model.specs.declared.call.Call.{Call}
 use Rattle.sp_model.specs.declared.call.Call.TheVariants as call
@@ -8,7 +8,7 @@ use Rattle.sp_model.specs.declared.declaration.Rule.{Rule}
 use Rattle.sp_model.specs.declared.outcome.Outcome.{Outcome}
 use Rattle.sp_model.specs.declared.outcome.Results.{Results}
 use Rattle.sp_model.specs.declared.outcome.Results.TheVariants.{Given, Missed, Pending}
-use Rattle.hydrate_graph.specs.Graphs.{Plan, Graph, known, is_ready, results_at, counted}
+use Rattle.hydrate_graph.specs.Graphs.{Plan, Graph, known, is_ready, results_at}
 use Rattle.hydrate_graph.specs.Numbers.{number_of, name_at}
 use Rattle.hydrate_graph.specs.Plans.{AreApart}
 use Rattle.scan_laws.specs.States.{FlightRow}

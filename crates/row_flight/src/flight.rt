@@ -1,23 +1,27 @@
 ghost use Rattle.std.specs.Prelude.{ℕ, IsTrue, IfSome, ◌≡◌, ◌↔◌, ◌<◌, ◌≤◌, ◌++◌, ◌∷◌, [], List, length, true, Some, None, IfOk, IfErr, OnOk, OnErr};
 ghost use Rattle.std.specs.Arc.{arc_value};
 ghost use Rattle.std.specs.Option.{option_copied};
-ghost use Rattle.hydrate_graph.specs.Graphs.{is_ready};
+ghost use Rattle.hydrate_graph.specs.Graphs.{Plan, is_ready};
 ghost use Rattle.row_pool.specs.Pools.{shown};
 ghost use Rattle.scan_laws.specs.Flights.{AreApart};
 ghost use Rattle.scan_laws.specs.Scans.{AllAgree};
+ghost use Rattle.scan_laws.specs.Steps.{fresh_row};
 ghost use Rattle.sp_model.specs.Settling.{Answers};
 ghost use Rattle.sp_model.specs.declared.declaration.TableDecl.{TableDecl};
 ghost use Rattle.sp_model.specs.declared.scan.ScanRequest.{ScanRequest};
 ghost use Rattle.sp_world.specs.Pieces.{IsSoundPiece};
 ghost use Rattle.row_flight.specs.Attempts.{IsAttempt};
-ghost use Rattle.row_flight.specs.Flying.{InFlight, Seated, Puts, IsOf, Sits, IsAwaited, first_graph, rows_of, heard_at, key_at};
+ghost use Rattle.row_flight.specs.Dues.{due_of, key_due};
+ghost use Rattle.row_flight.specs.Flying.{InFlight, Seated, Puts, FirstStands, IsOf, Sits, IsAwaited, first_graph, rows_of, heard_at, key_at};
 ghost use Rattle.row_flight.specs.Hearing.{IsPieceOfSeen, AllHear, Keeps};
-ghost use Rattle.row_flight.specs.Pooled.{Rewrites};
+ghost use Rattle.row_flight.specs.Jobs.{AreListed, IsAllListed, RowLists, Lists, PoolLists, RowsListed};
+ghost use Rattle.row_flight.specs.Pooled.{Rewrites, RowsShown, IsFlight};
 ghost use Rattle.row_flight.specs.Rows.{is_open, row_hears, attempt_of, IsRow, IsPlaced};
 ghost use Rattle.row_flight.specs.declared.row.RowCalls.{RowCalls};
 ghost use Rattle.row_flight.specs.declared.frame.Taken.TheVariants as taken;
 
-use crate::frame::{CallFrame, Taken};
+use crate::dues::sooner;
+use crate::frame::{CallFrame, JobList, Taken};
 use crate::row::RowCalls;
 use hydrate_graph::{RowGraph, RowPlan};
 use row_pool::{Key, Pool};
@@ -123,6 +127,9 @@ impl Flight {
     pub fn put(&mut self, alloc: Global, item: Cell) -> Result<(), Cell>
         requires { length self.old.rows < self.old.window }
         ensures ok { OnOk result (Puts self.old self.new item) }
+        // To the laws of a scan it is a row of which nothing is known.
+        ensures view { OnOk result (rows_of self.new ≡ rows_of self.old ++ fresh_row item ∷ []) }
+        ensures hear { (table : TableDecl) (answers : Answers) → AllHear table answers self.old.rows → OnOk result (AllHear table answers self.new.rows) }
         ensures err { OnErr result (self.new ≡ self.old) }
         ensures handed_back { IfErr result (λ back. back ≡ item) }
     {
@@ -140,7 +147,9 @@ impl Flight {
 
     /// The first row.
     pub fn first(&self) -> Option<&RowGraph>
-        ensures { option_copied result ≡ first_graph self.now.rows }
+        ensures graph { option_copied result ≡ first_graph self.now.rows }
+        // To the laws of a scan it stands as its graph does.
+        ensures row { (table : TableDecl) (request : ScanRequest) → IsOf table request self.now → FirstStands table request self.now.rows (option_copied result) }
     {
         let Some(key) = self.order.front() else {
             return None;
@@ -160,6 +169,28 @@ impl Flight {
             unreachable!()
         };
         let _row = self.pool.give_back(key);
+    }
+
+    /// Puts each call that is ready and wasn't listed before at the end of a list, for the scan of this number. For want of memory it
+    /// stops with those that it listed.
+    pub fn list(&mut self, alloc: Global, scan: u64, into: &mut JobList) -> Result<(), Memory>
+        ensures lists { Lists scan self.old self.new into.old into.new }
+        ensures all { OnOk result (IsAllListed self.new) }
+    {
+        list_all(&mut self.pool, &self.order, alloc, &self.frame, scan, into)?;
+        Ok(())
+    }
+
+    /// The least tick for which a call waits: one that was asked again, and of which no piece came since.
+    pub fn due(&self) -> Option<u64>
+        ensures { result ≡ due_of self.now }
+    {
+        let mut least = None;
+        for place in 0..self.order.len() {
+            let key = self.order[place];
+            least = sooner(least, due_at(&self.pool, &key));
+        }
+        least
     }
 
     /// Whether a call is waited for at a seat, and this piece of it is next.
@@ -270,5 +301,60 @@ fn hear_at(
     match pool.get_mut(key) {
         Some(row) => row.hear(alloc, function, piece, tick),
         None => Ok(()),
+    }
+}
+
+/// Lists the calls of the row of a key, for the scan of this number.
+fn list_at(
+    pool: &mut Pool<RowCalls>,
+    alloc: Global,
+    key: &Key,
+    frame: &CallFrame,
+    scan: u64,
+    into: &mut JobList,
+) -> Result<(), Memory>
+    requires { (row : RowCalls) × (shown pool.old key.now ≡ Some row) × IsRow row }
+    ensures { (row : RowCalls) → shown pool.old key.now ≡ Some row → (next : RowCalls) × Rewrites pool.old pool.new key.now next × RowLists frame.now scan key.now row next into.old into.new × OnOk result (AreListed next) }
+{
+    let seat = Seat {
+        scan,
+        slot: key.slot,
+        generation: key.generation,
+        function: 0,
+    };
+    match pool.get_mut(key) {
+        Some(row) => row.list(alloc, frame, seat, into),
+        None => unreachable!(),
+    }
+}
+
+/// Lists the calls of the rows of these keys, for the scan of this number.
+fn list_all(
+    pool: &mut Pool<RowCalls>,
+    order: &VecDeque<Key>,
+    alloc: Global,
+    frame: &CallFrame,
+    scan: u64,
+    into: &mut JobList,
+) -> Result<(), Memory>
+    requires { RowsShown pool.old order.now.items }
+    ensures lists { (plan : Plan) (window number : ℕ) → IsFlight plan window number pool.old order.now.items → PoolLists plan frame.now window number scan order.now.items pool.old pool.new into.old into.new }
+    ensures all { OnOk result (RowsListed pool.new order.now.items (length order.now.items)) }
+{
+    for place in 0..order.len() {
+        let key = order[place];
+        list_at(pool, alloc, &key, frame, scan, into)?;
+    }
+    Ok(())
+}
+
+/// The least tick for which a call of the row of a key waits.
+fn due_at(pool: &Pool<RowCalls>, key: &Key) -> Option<u64>
+    requires { IfSome (shown pool.now key.now) IsRow }
+    ensures { result ≡ key_due pool.now key.now }
+{
+    match pool.get(key) {
+        Some(row) => row.due(),
+        None => None,
     }
 }

@@ -9,16 +9,16 @@
 
 mod attempt;
 mod attempts;
+mod dues;
 mod flight;
 mod frame;
+mod laws;
+mod listing;
 mod row;
 
 pub use attempt::Attempt;
 pub use attempts::Attempts;
 pub use flight::Flight;
 pub use frame::{CallFrame, JobList, Taken, Wanted};
-pub use row::RowCalls;
-
-mod laws;
-
 pub use laws::flight_goes_on;
+pub use row::RowCalls;

@@ -48,7 +48,7 @@ impl RowCalls {
     }
 
     /// The present attempt of a function that a column needs.
-    fn attempt(&self, function: u32) -> &Attempt
+    pub(crate) fn attempt(&self, function: u32) -> &Attempt
         requires row { IsRow self.now }
         requires wanted { wants self.now.graph.plan function ≡ true }
         ensures value { result.now ≡ attempt_of self.now function }

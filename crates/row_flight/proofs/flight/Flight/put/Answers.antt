@@ -1,10 +1,11 @@
-use Rattle.std.proofs.Common.{◌≡◌, ◌<◌, ◌+◌, ◌++◌, ◌∷◌, [], List, length, Some, None, refl, sym, ap, subst, ◌∙◌, arith}
+use Rattle.std.proofs.Common.{◌≡◌, ◌++◌, ◌∷◌, [], List, Some, None, refl, sym, ap, ◌∙◌, arith}
 use Rattle.std.specs.Arc.{arc_value}
-use Rattle.row_pool.specs.Pools.{Pool, shown}
+use Rattle.row_pool.specs.Pools.{shown}
+use Rattle.row_flight.proofs.Fresh.{put_view, put_hears}
 use Rattle.row_flight.proofs.Pooling.{seated_length, seated_shows, begun_row, pushed, pushed_rows}
 use Rattle.row_flight.specs.Flying.{InFlight, Seated}
-use Rattle.row_flight.specs.Pooled.{seated, IsFlight}
-use Rattle.row_flight.specs.Rows.{begun, IsRow}
+use Rattle.row_flight.specs.Pooled.{seated}
+use Rattle.row_flight.specs.Rows.{IsRow}
 use Rattle.row_flight.proofs.flight.Flight.put.Goals as goal
 
 pub unreachable-requires : goal.unreachable-requires
@@ -53,3 +54,9 @@ returns-clause-ok c =
           absurd (cc);
       is = ap all (ap (seated c.take.new.self) c.push_back_reserved.ensures.items ∙ rows ∙ ap (λ r. seated p items ++ record { key = c.in-Ok.key; row = r } ∷ []) c.in_ok-row.ensures.begun);
     })
+
+pub returns-clause-view : goal.returns-clause-view
+returns-clause-view c = put_view _ _ c.args.item (returns-clause-ok c)
+
+pub returns-clause-hear : goal.returns-clause-hear
+returns-clause-hear c = λ table answers hear. put_hears _ _ c.args.item (returns-clause-ok c) table answers hear
