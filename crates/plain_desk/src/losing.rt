@@ -1,0 +1,75 @@
+ghost use Rattle.std.specs.Prelude.{◌≡◌, ◌≤◌, ◌^◌, [], Some, vec_len, IfSome};
+ghost use Rattle.rate_gate.specs.Journal.{IsOpen, last_tick};
+ghost use Rattle.plain_desk.specs.Grants.{AreHeld};
+ghost use Rattle.plain_desk.specs.Slots.{Keeps, Stands, returned};
+ghost use Rattle.plain_desk.specs.declared.stage.Stage.TheVariants as stage;
+
+use crate::slot_parts::SlotParts;
+use crate::stage::Stage;
+use child_link::Flight;
+use rate_gate::{Gate, Used};
+use sp_outside::Child;
+use sp_world::World;
+use std::alloc::Global;
+
+/// Returns a grant, where there is one.
+pub(crate) fn return_grant(gate: &mut Gate, used: Option<Used>, tick: u64)
+    requires grant { IfSome used (λ u. IsOpen gate.old.journal u.number u.tags) }
+    requires clock { last_tick gate.old.journal ≤ tick }
+    requires small { tick ≤ 2 ^ 62 }
+    ensures { gate.new.journal ≡ returned gate.old.journal used tick }
+{
+    match used {
+        Some(used) => gate.give_back(used, tick),
+        None => {}
+    }
+}
+
+/// Ends an open call: returns its grant, and drops its job.
+fn end_flight(gate: &mut Gate, flight: Flight, tick: u64)
+    requires grant { IsOpen gate.old.journal flight.used.number flight.used.tags }
+    requires clock { last_tick gate.old.journal ≤ tick }
+    requires small { tick ≤ 2 ^ 62 }
+    ensures { gate.new.journal ≡ returned gate.old.journal (Some flight.used) tick }
+{
+    let Flight {
+        id: _,
+        job,
+        taken: _,
+        used,
+        length: _,
+    } = flight;
+    drop(job);
+    gate.give_back(used, tick);
+}
+
+/// Ends open calls.
+pub(crate) fn end_flights(gate: &mut Gate, flights: Vec<Flight>, tick: u64)
+    requires held { AreHeld gate.old.journal flights.items }
+    requires clock { last_tick gate.old.journal ≤ tick }
+    requires small { tick ≤ 2 ^ 62 }
+    ensures { last_tick gate.new.journal ≤ tick }
+{
+    let mut flights = flights;
+    let count = flights.len();
+    for i in 0..count {
+        let flight = flights.take_last();
+        end_flight(gate, flight, tick);
+    }
+    flights.destroy_empty();
+}
+
+/// A child is gone: its open calls end, and what waits for it is dropped.
+pub(crate) fn lose<W: World, C: Child<W>>(alloc: Global, parts: &mut SlotParts<W, C>)
+    requires { Keeps parts.old.link.flights.items parts.old.gate.journal parts.old.tick }
+    ensures keeps { Keeps parts.new.link.flights.items parts.new.gate.journal parts.new.tick }
+    ensures stands { Stands parts.new.stage parts.new.link.up parts.new.link.flights.items (vec_len parts.new.waiting) parts.new.link.prepared }
+    ensures gone { parts.new.stage ≡ stage.Gone }
+    ensures none { parts.new.link.flights.items ≡ [] }
+    ensures own { C.connection parts.new.link.child ≡ C.connection parts.old.link.child }
+{
+    let flights = parts.link.reissue(alloc);
+    end_flights(&mut parts.gate, flights, parts.tick);
+    parts.waiting.clear();
+    parts.stage = Stage::Gone;
+}

@@ -1,0 +1,7 @@
+/// How far a child is: not started, running, or gone after a loss.
+#[derive(Clone, Copy, Debug, PartialEq, Eq)]
+pub enum Stage {
+    Unstarted,
+    Running,
+    Gone,
+}

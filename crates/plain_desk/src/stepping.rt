@@ -1,0 +1,74 @@
+ghost use Rattle.std.specs.Prelude.{◌≡◌, ◌≢◌, ◌≤◌, ◌^◌, [], vec_len};
+ghost use Rattle.plain_desk.specs.Slots.{Keeps, Stands};
+
+use crate::losing::{lose, return_grant};
+use crate::sending::{Unsent, send_due};
+use crate::slot_parts::SlotParts;
+use child_link::{Arrived, RecvEnd};
+use sp_model::Seat;
+use sp_outside::Child;
+use sp_world::{ToldLine, World};
+use std::alloc::Global;
+
+/// What a slot did: it received what is told for a seat, its child is lost, it has nothing to receive, or memory is wanting.
+#[derive(Drop)]
+pub(crate) enum Stepped<W: World> {
+    Told { seat: Seat, told: ToldLine<W> },
+    Lost,
+    Idle,
+    Memory,
+}
+
+/// Receives one line of a child that has open calls.
+fn receive_one<W: World, C: Child<W>>(alloc: Global, parts: &mut SlotParts<W, C>) -> Stepped<W>
+    requires some { parts.old.link.flights.items ≢ [] }
+    requires keeps { Keeps parts.old.link.flights.items parts.old.gate.journal parts.old.tick }
+    requires stands { Stands parts.old.stage parts.old.link.up parts.old.link.flights.items (vec_len parts.old.waiting) parts.old.link.prepared }
+    ensures keeps { Keeps parts.new.link.flights.items parts.new.gate.journal parts.new.tick }
+    ensures stands { Stands parts.new.stage parts.new.link.up parts.new.link.flights.items (vec_len parts.new.waiting) parts.new.link.prepared }
+    ensures own { C.connection parts.new.link.child ≡ C.connection parts.old.link.child }
+{
+    match parts.link.receive(alloc) {
+        Ok(arrived) => {
+            let Arrived {
+                seat,
+                session: _,
+                told,
+                used,
+            } = arrived;
+            return_grant(&mut parts.gate, used, parts.tick);
+            Stepped::Told { seat, told }
+        }
+        Err(RecvEnd::Lost(loss)) => {
+            drop(loss);
+            lose(alloc, parts);
+            Stepped::Lost
+        }
+        Err(RecvEnd::Memory) => Stepped::Memory,
+    }
+}
+
+/// Sends the calls that are due at a tick and for which there is room, and receives one line where calls are open.
+pub(crate) fn step_slot<W: World, C: Child<W>>(
+    alloc: Global,
+    parts: &mut SlotParts<W, C>,
+    tick: u64,
+) -> Stepped<W>
+    requires small { tick ≤ 2 ^ 62 }
+    requires keeps { Keeps parts.old.link.flights.items parts.old.gate.journal parts.old.tick }
+    requires stands { Stands parts.old.stage parts.old.link.up parts.old.link.flights.items (vec_len parts.old.waiting) parts.old.link.prepared }
+    ensures keeps { Keeps parts.new.link.flights.items parts.new.gate.journal parts.new.tick }
+    ensures stands { Stands parts.new.stage parts.new.link.up parts.new.link.flights.items (vec_len parts.new.waiting) parts.new.link.prepared }
+    ensures own { C.connection parts.new.link.child ≡ C.connection parts.old.link.child }
+{
+    parts.tick = parts.tick.max(tick);
+    match send_due(alloc, parts) {
+        Ok(()) => {}
+        Err(Unsent::Lost) => return Stepped::Lost,
+        Err(Unsent::Memory) => return Stepped::Memory,
+    }
+    if parts.link.flights().is_empty() {
+        return Stepped::Idle;
+    }
+    receive_one(alloc, parts)
+}
