@@ -1,5 +1,5 @@
 -- What is picked of a line, from the steps that picked it.
-use Rattle.std.proofs.Common.{◌≡◌, ℕ, ◌+◌, List, [], ◌∷◌, ◌++◌, take, drop, suc, zero, Option, Some, None, refl, sym, ap, subst, ◌∙◌}
+use Rattle.std.proofs.Common.{◌≡◌, ℕ, ◌+◌, List, [], ◌∷◌, ◌++◌, take, drop, suc, zero, Option, Some, sym, ap, subst, ◌∙◌}
 use Rattle.std.specs.List.{slice_get, remove}
 use Rattle.call_jobs.specs.declared.job.Job.{Job}
 use Rattle.rate_gate.specs.Asking.{IsGranted}

@@ -1,5 +1,5 @@
 -- The jobs of a connection that wait to be made.
-use Rattle.std.specs.Prelude.{◌≡◌, ℕ, ◌+◌, ◌-◌, ◌==◌, Bool, not, List, [], ◌∷◌, ◌++◌, filter, max, nat_le, nat_eq, if◌then◌else◌}
+use Rattle.std.specs.Prelude.{ℕ, ◌-◌, Bool, not, List, [], ◌∷◌, ◌++◌, filter, max, nat_le, nat_eq, if◌then◌else◌}
 use Rattle.std.specs.List.{insert, prefix_len}
 use Rattle.call_jobs.specs.declared.job.Job.{Job}
 

@@ -1,5 +1,5 @@
 -- What a gate answers to the jobs of a line, asked in their order.
-use Rattle.std.specs.Prelude.{◌≡◌, ℕ, ◌<◌, List, take, Option, Some, None}
+use Rattle.std.specs.Prelude.{◌≡◌, ℕ, ◌<◌, List, take, Option, Some}
 use Rattle.std.specs.List.{AllZip, slice_get}
 use Rattle.call_jobs.specs.declared.job.Job.{Job}
 use Rattle.rate_gate.specs.Asking.{IsGranted}

@@ -4,7 +4,9 @@ ghost use Rattle.call_queue.specs.Lines.{no_jobs, with_job, with_room, without_s
 ghost use Rattle.call_queue.specs.Picking.{HasPicked};
 ghost use Rattle.call_queue.specs.Queues.{line_of, KeepsOthers, KeepsAll};
 
-use crate::lines::{NamedLine, clear_named, find_or_add, forget_all, pick_named, push_at, reserve_at};
+use crate::lines::{
+    NamedLine, clear_named, find_or_add, forget_all, pick_named, push_at, reserve_at,
+};
 use crate::picked::Picked;
 use call_jobs::Job;
 use rate_gate::Gate;

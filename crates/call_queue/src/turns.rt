@@ -50,12 +50,7 @@ fn reply_to(alloc: Global, job: &Job, gate: &mut Gate, tick: u64) -> Reply
 }
 
 /// Asks for one job after another, until one is granted.
-pub(crate) fn ask_in_turn(
-    alloc: Global,
-    jobs: &VecDeque<Job>,
-    gate: &mut Gate,
-    tick: u64,
-) -> Turn
+pub(crate) fn ask_in_turn(alloc: Global, jobs: &VecDeque<Job>, gate: &mut Gate, tick: u64) -> Turn
     requires since { last_tick gate.old.journal ≤ tick }
     requires range { tick ≤ 2 ^ 62 }
     ensures turned { HasTurned gate.old tick jobs.now.items result gate.new }

@@ -1,4 +1,4 @@
-use Rattle.std.proofs.Common.{◌≡◌, ◌++◌, append-nil, sym, ap, ◌∙◌}
+use Rattle.std.proofs.Common.{◌++◌, append-nil, sym, ap, ◌∙◌}
 use Rattle.call_queue.proofs.ByDue.{rest_none, rest_all}
 use Rattle.call_queue.proofs.jobs.join_due.Goals as goal
 

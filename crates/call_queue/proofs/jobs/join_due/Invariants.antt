@@ -1,4 +1,4 @@
-use Rattle.std.proofs.Common.{◌≡◌, ◌+◌, ◌≤◌, ◌++◌, not, filter}
+use Rattle.std.proofs.Common.{◌≡◌, ◌+◌, ◌++◌, not, filter}
 use Rattle.std.specs.VecDeque.{deque_len, deque_capacity}
 use Rattle.call_queue.specs.Lines.{is_due}
 use Rattle.call_queue.specs.Order.{IsByDue}

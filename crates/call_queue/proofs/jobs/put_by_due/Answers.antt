@@ -1,4 +1,4 @@
-use Rattle.std.proofs.Common.{◌≡◌, sym, ap, subst, ◌∙◌}
+use Rattle.std.proofs.Common.{sym, ap, subst, ◌∙◌}
 use Rattle.std.specs.List.{insert}
 use Rattle.call_queue.specs.Order.{IsByDue}
 use Rattle.call_queue.proofs.ByDue.{put_keeps}

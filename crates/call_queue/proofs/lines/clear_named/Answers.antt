@@ -1,4 +1,4 @@
-use Rattle.std.proofs.Common.{◌≡◌, ℕ, length, sym, ap, ◌∙◌, arith}
+use Rattle.std.proofs.Common.{◌≡◌, length, ◌∙◌, arith}
 use Rattle.call_queue.proofs.Naming.{emptied_absent}
 use Rattle.call_queue.proofs.lines.clear_named.Goals as goal
 

@@ -1,4 +1,4 @@
-use Rattle.std.proofs.Common.{◌≡◌, ℕ, ◌<◌, List, length, refl, sym, ap, ◌∙◌, arith, add-one, slice_set, slice_index_or}
+use Rattle.std.proofs.Common.{List, refl, ap, ◌∙◌, arith, add-one, slice_set, slice_index_or}
 use Rattle.call_queue.specs.Queues.{forgotten}
 use Rattle.call_queue.specs.declared.lines.NamedLine.{NamedLine}
 use Rattle.call_queue.proofs.Naming.{one_more, all_changed, no_line_named}

@@ -1,4 +1,3 @@
-use Rattle.std.proofs.Common.{◌≡◌}
 use Rattle.call_queue.specs.Lines.{LineView}
 use Rattle.call_queue.specs.Picking.{HasPicked}
 use Rattle.call_queue.proofs.Naming.{old_line, new_line, other_lines, over}

@@ -1,4 +1,4 @@
-use Rattle.std.proofs.Common.{◌≡◌, ℕ, ◌<◌, length, sym, ap, ◌∙◌, arith}
+use Rattle.std.proofs.Common.{◌<◌, length, sym, ◌∙◌, arith}
 use Rattle.call_queue.proofs.Naming.{none_of_absent}
 use Rattle.call_queue.proofs.lines.pick_named.Goals as goal
 

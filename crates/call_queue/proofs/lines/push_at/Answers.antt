@@ -1,4 +1,4 @@
-use Rattle.std.proofs.Common.{◌≡◌, ℕ, ◌<◌, sym, ap, subst, ◌∙◌}
+use Rattle.std.proofs.Common.{◌<◌, sym, ap, subst, ◌∙◌}
 use Rattle.std.proofs.lemmas.Result.{on_ok_weaker}
 use Rattle.call_queue.specs.Lines.{LineView, with_job}
 use Rattle.call_queue.proofs.Naming.{old_line, new_line, other_lines}

@@ -1,4 +1,4 @@
-use Rattle.std.proofs.Common.{◌≡◌, ℕ, ◌<◌, ◌+◌, length, take, Option, sym, ap, subst, ◌∙◌, arith}
+use Rattle.std.proofs.Common.{ℕ, ◌<◌, ◌+◌, length, take, Option, sym, subst, ◌∙◌, arith}
 use Rattle.rate_gate.specs.Limits.{GateView}
 use Rattle.call_queue.specs.Picking.{IsHeld}
 use Rattle.call_queue.specs.Turns.{AreHeld}

@@ -1,4 +1,4 @@
-use Rattle.std.proofs.Common.{◌≡◌, ℕ, ◌+◌, List, Option, Some, sym, ap, subst, ◌∙◌}
+use Rattle.std.proofs.Common.{◌≡◌, ◌+◌, List, sym, ap, subst, ◌∙◌}
 use Rattle.std.specs.List.{slice_get, remove}
 use Rattle.call_jobs.specs.declared.job.Job.{Job}
 use Rattle.call_queue.specs.Lines.{LineView, in_line, not_due}
