@@ -1,3 +1,5 @@
 pub mod ConjunctLaws
 pub mod ReadLaws
 pub mod PlaceLaws
+pub mod Choosing
+pub mod PlannedSources
