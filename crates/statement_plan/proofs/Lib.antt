@@ -3,3 +3,5 @@ pub mod ReadLaws
 pub mod PlaceLaws
 pub mod Choosing
 pub mod PlannedSources
+pub mod Covering
+pub mod Meeting
