@@ -84,4 +84,4 @@ pub column_there : (names : List (List ℕ)) (cs : List ColumnDecl) (n : ℕ) (c
     → has_name (names_of_columns (columns_named names cs)) c.name ≡ true
 column_there names cs n c e h =
     split_there (λ d. has_name names d.name ≡ true → has_name (names_of_columns (columns_named names cs)) d.name ≡ true) cs [] n c e
-    (λ front back q k. ap (λ l. has_name (names_of_columns (columns_named names l)) _) q ∙ there names front _ back k) h
+    (λ front back q k. ap (λ l. has_name (names_of_columns (columns_named names l)) c.name) q ∙ there names front c back k) h

@@ -5,3 +5,4 @@ pub mod Choosing
 pub mod PlannedSources
 pub mod Covering
 pub mod Meeting
+pub mod NamedColumns
