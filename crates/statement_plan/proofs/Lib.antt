@@ -6,3 +6,4 @@ pub mod PlannedSources
 pub mod Covering
 pub mod Meeting
 pub mod NamedColumns
+pub mod PlansHold

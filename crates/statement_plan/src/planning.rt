@@ -1,6 +1,6 @@
 // The plan of a statement.
 
-ghost use Rattle.std.specs.Prelude.{◌≡◌, map, option_map, take, None, IfOk, IfErr, OnOk, Ok};
+ghost use Rattle.std.specs.Prelude.{◌≡◌, map, option_map, take, None, IfOk, IfErr, OnOk, Ok, All};
 ghost use Rattle.std.specs.Arc.{arc_value};
 ghost use Rattle.sp_model.specs.Requests.{keys_for, fan_for};
 ghost use Rattle.source_scans.specs.Planned.{IsPlanned, conditions_of};
@@ -194,6 +194,7 @@ impl Plan {
     pub fn of(alloc: Global, bound: &Bound) -> Result<Plan, PlanFault>
         ensures plan { IfOk result (IsPlanOf bound.now) }
         ensures missing { IfErr result (IsMissing bound.now) }
+        ensures planned { IfOk result (λ p. All IsPlanned p.sources) }
     {
         let named = named(alloc, bound)?;
         let layout = layout_from(alloc, bound.sources.as_slice(), named.as_slice())?;
