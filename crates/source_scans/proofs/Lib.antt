@@ -3,3 +3,4 @@ pub mod RowUnits
 pub mod Places
 pub mod Made
 pub mod EachValue
+pub mod MadeAsked

@@ -221,6 +221,7 @@ made_by s p u h =
         limit = refl;
       };
       connection = left a (b && (d && (e && f))) h;
+      access = refl;
       met = right e f h3;
     }
 

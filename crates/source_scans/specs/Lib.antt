@@ -4,3 +4,4 @@ pub mod Asking
 pub mod SameUnits
 pub mod Planned
 pub mod Collecting
+pub mod Asked

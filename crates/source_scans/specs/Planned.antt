@@ -50,4 +50,5 @@ unlimited r = record r { limit = None }
 pub record IsMadeBy (s : PlanSource) (r : ScanRequest) : Type 0 where
   pub request : IsRequestOf (arc_value s.table) (unlimited r)
   pub connection : has_name s.connections r.connection ≡ true
+  pub access : r.access ≡ s.access
   pub met : is_met s.keys r.conditions ≡ true

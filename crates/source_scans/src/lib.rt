@@ -8,6 +8,7 @@
 mod asking;
 mod collecting;
 mod distinct;
+mod laws;
 mod scans;
 mod source;
 mod unit_scan;
@@ -15,5 +16,6 @@ mod value;
 
 pub use asking::conditions_of;
 pub use distinct::distinct_values;
+pub use laws::made_requests_are_asked;
 pub use scans::Scans;
 pub use source::{Fan, PlanCondition, PlanOperand, PlanSource};

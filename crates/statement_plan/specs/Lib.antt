@@ -3,3 +3,4 @@ pub mod Columns
 pub mod Reading
 pub mod Placed
 pub mod Sources
+pub mod Plans

@@ -3,12 +3,11 @@
 ghost use Rattle.std.specs.Prelude.{◌≡◌, ◌+◌, ◌++◌, [], bytes_eq, option_map, option_copied, option_to_list, IfOk, OnOk};
 ghost use Rattle.std.specs.List.{filter_map, position_or_len};
 ghost use Rattle.sp_model.specs.RowOf.{names_of_columns, columns_named};
-ghost use Rattle.statement_plan.specs.Columns.{column_name, name_within, names_within, columns_for, layout_from, layout_of, place_in, place_of};
+ghost use Rattle.statement_plan.specs.Columns.{column_name, name_within, names_within, columns_for, layout_from, place_in, place_of};
 
-use crate::columns::named;
 use sp_model::{ColumnDecl, TableDecl, has_name};
 use sp_value::{Memory, Text, Texts, TryCopy};
-use sql_bind::{Bound, BoundSource, Column};
+use sql_bind::{BoundSource, Column};
 use sqlite_items::Items;
 use std::alloc::Global;
 
@@ -79,7 +78,7 @@ fn names_among(alloc: Global, names: &[Text], columns: &[ColumnDecl]) -> Result<
     Ok(found)
 }
 
-fn columns_for(
+pub(crate) fn columns_for(
     alloc: Global,
     sources: &[BoundSource],
     named: &[Column],
@@ -93,7 +92,8 @@ fn columns_for(
     Ok(columns)
 }
 
-fn layout_from(
+/// The columns of each source's rows, where these are the columns that the statement names.
+pub(crate) fn layout_from(
     alloc: Global,
     sources: &[BoundSource],
     named: &[Column],
@@ -112,15 +112,6 @@ fn layout_from(
         };
         number = next;
     }
-    Ok(layout)
-}
-
-/// The columns of each source's rows.
-pub(crate) fn layout_of(alloc: Global, bound: &Bound) -> Result<Items<Texts>, Memory>
-    ensures { IfOk result (λ layout. layout ≡ layout_of bound.now) }
-{
-    let named = named(alloc, bound)?;
-    let layout = layout_from(alloc, bound.sources.as_slice(), named.as_slice())?;
     Ok(layout)
 }
 

@@ -7,9 +7,13 @@
 
 mod columns;
 mod conjuncts;
+mod finishing;
 mod layout;
 mod limits;
 mod placing;
+mod plan;
+mod planning;
 mod reading;
 mod sources;
 
+pub use plan::{Finishing, Heading, Plan, PlanFault};

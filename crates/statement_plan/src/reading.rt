@@ -30,6 +30,7 @@ fn turned(operator: Op) -> Op
 }
 
 /// A source by its number, the sources of the statement, and the columns of their rows.
+#[derive(Clone, Copy)]
 pub(crate) struct Reading<'a> {
     pub sources: &'a [BoundSource],
     pub layout: &'a [Texts],
