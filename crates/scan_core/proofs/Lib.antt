@@ -1,0 +1,7 @@
+pub mod Keeping
+pub mod Nexting
+pub mod Fronts
+pub mod Cells
+pub mod Moving
+pub mod Ending
+pub mod Weighing

@@ -1,0 +1,5 @@
+pub mod Advances
+pub mod Calls
+pub mod Courses
+pub mod Next
+pub mod Weights
