@@ -1,6 +1,13 @@
 -- Each step of a scan keeps it in agreement with any answers.
-use Rattle.std.proofs.Common.{◌≡◌, ℕ, suc, ◌+◌, Bool, true, false, ◌&&◌, List, [], ◌∷◌, ◌++◌, length, Option, Some, None, refl, sym, ap, subst, ◌∙◌, append_assoc, nat_lt, add-zero}
-use Rattle.std.proofs.lemmas.List.{append-nil}
+use Rattle.std.proofs.Common.{◌≡◌, ℕ, suc, ◌+◌, Bool, true, false, ◌&&◌, List, [], ◌∷◌, ◌++◌, length, Option, Some, None, refl, sym, ap, subst, ◌∙◌, append_assoc, nat_lt, add-zero, ◌≤◌, ◌-◌, drop, arith, if◌then◌else◌}
+use Rattle.std.proofs.lemmas.Bool.Decides.{nat_tests}
+use Rattle.std.proofs.lemmas.List.{append-nil, length-append, length-drop}
+use Rattle.std.specs.List.{slice_get}
+use Rattle.sp_model.specs.declared.call.Call.TheVariants as call
+use Rattle.sp_model.specs.declared.call.Piece.{Piece}
+use Rattle.sp_model.specs.declared.call.Piece.TheVariants as piece
+use Rattle.row_flight.specs.Hearing.{IsPieceOfSeen}
+use Rattle.scan_core.specs.Hearing.{inner_heard, InnerTakes, outer_heard, OuterTakes}
 use Rattle.sp_value.specs.declared.cell.Cell.{Cell}
 use Rattle.sp_model.specs.RowOf.{columns_named, row_of}
 use Rattle.sp_model.specs.Settling.{Answers, Verdict, Accept, Again, Refuse, Open, judged}
@@ -11,12 +18,12 @@ use Rattle.sp_model.specs.declared.outcome.Row.{Row}
 use Rattle.sp_model.specs.declared.outcome.Walk.{Walk}
 use Rattle.sp_model.specs.declared.outcome.Walk.TheVariants.{Going, Full, Failed, Waiting}
 use Rattle.sp_model.specs.declared.scan.ScanRequest.{ScanRequest}
-use Rattle.scan_laws.proofs.Stepping.{item_goes_into_flight, row_is_taken, limit_is_reached, row_fails, inner_is_accepted, inner_is_asked_again, inner_is_refused, too_many_items, child_begins, outer_is_accepted, outer_is_asked_again, outer_is_refused, scan_finishes}
+use Rattle.scan_laws.proofs.Stepping.{item_comes, ending_comes, parent_comes, parents_end, item_goes_into_flight, row_is_taken, limit_is_reached, row_fails, inner_is_accepted, inner_is_asked_again, inner_is_refused, too_many_items, child_begins, outer_is_accepted, outer_is_asked_again, outer_is_refused, scan_finishes}
 use Rattle.scan_laws.specs.Flights.{AreApart}
 use Rattle.scan_laws.specs.Reaching.{Made}
-use Rattle.scan_laws.specs.Scans.{Agrees, HasListed, Keeps}
+use Rattle.scan_laws.specs.Scans.{HasCome, InnerCame, OuterCame, Agrees, HasListed, Keeps}
 use Rattle.scan_laws.specs.States.{Outer, Inner, FlightRow, Scan}
-use Rattle.scan_laws.specs.Steps.{in_flight, past, ended_so, inner_accepted, inner_again, child_begun, outer_accepted, outer_again, finished}
+use Rattle.scan_laws.specs.Steps.{item_came, ending_came, parent_came, in_flight, past, ended_so, inner_accepted, inner_again, child_begun, outer_accepted, outer_again, finished}
 use Rattle.scan_core.specs.Advances.{row_now, StandsBy, Decides, Fills, AllDecided, is_too_many, InnerStands, InnerEnds, ChildBegins, OuterStands, OuterEnds, Finishes, Step, RowDecides, ItemFills, CallEnds, ListBegins, ParentsEnd, NothingIsLeft, Runs, Advances}
 
 -- a state that is known by an equation
@@ -95,3 +102,58 @@ advances_none table request window st t e = record { through = []; runs = e }
 
 pub advances_more : (table : TableDecl) (request : ScanRequest) (window : ℕ) (st u t : Scan) → Advances table request window st u → u.end ≡ None → Step table request window u t → Advances table request window st t
 advances_more table request window st u t a on s = record { through = a.through ++ t ∷ []; runs = runs_more table request window a.through st u t a.runs on s }
+
+-- ---- pieces
+
+all_came : (k : ℕ) (xs items later : List Cell) → drop k xs ≡ items ++ later → k ≤ length xs → k + length items ≤ length xs
+all_came k xs items later rest within =
+    let d : length (drop k xs) ≡ length xs - k = length-drop k xs in
+    let e : length (drop k xs) ≡ length items + length later = ap length rest ∙ length-append items later in
+    omega arith
+
+inner_within : (answers : Answers) (st : Scan) (i : Inner) → InnerCame answers st.inside st.inner → st.inner ≡ Some i → i.decided + length st.inside ≤ length (answers i.asked i.attempt).items
+inner_within answers st i came is =
+    let h : HasCome i.decided st.inside i.ending i.listed (answers i.asked i.attempt) = subst (λ (o : Option Inner). InnerCame answers st.inside o) is came in
+    all_came i.decided (answers i.asked i.attempt).items st.inside h.later h.rest h.within
+
+item_keeps : (table : TableDecl) (request : ScanRequest) (answers : Answers) (st : Scan) (i : Inner) (place : ℕ) (x : Cell) (lt : Bool) → nat_lt place (i.decided + length st.inside) ≡ lt → Agrees table request answers st → st.end ≡ None → st.inner ≡ Some i
+    → i.listed ≡ true → i.ending ≡ None → place ≤ i.decided + length st.inside → slice_get (answers i.asked i.attempt).items place ≡ Some x → Keeps table request answers st (if lt then st else item_came st x) []
+item_keeps table request answers st i place x true e a on is listed going next piece = keeps_none table request answers st st refl a
+item_keeps table request answers st i place x false e a on is listed going next piece =
+    let past : i.decided + length st.inside ≤ place = grind (arith, nat_tests, e) in
+    let here : place ≡ i.decided + length st.inside = omega arith in
+    item_comes table request answers st i x a on is listed going (ap (slice_get (answers i.asked i.attempt).items) (sym here) ∙ piece)
+
+-- a piece of what is answered keeps a scan in agreement with it
+pub inner_hears : (table : TableDecl) (request : ScanRequest) (answers : Answers) (st : Scan) (i : Inner) (p : Piece) → Agrees table request answers st → st.end ≡ None → st.inner ≡ Some i → InnerTakes st i p → IsPieceOfSeen (answers i.asked i.attempt) p
+    → Keeps table request answers st (inner_heard st i p) []
+inner_hears table request answers st i (piece.Item place x) a on is takes of = item_keeps table request answers st i place x (nat_lt place (i.decided + length st.inside)) refl a on is takes.listed takes.going takes.next of
+inner_hears table request answers st i (piece.Ending count e) a on is takes of =
+    let within : i.decided + length st.inside ≤ length (answers i.asked i.attempt).items = inner_within answers st i a.inner is in
+    let next : count ≤ i.decided + length st.inside = takes.next in
+    let all : count ≡ length (answers i.asked i.attempt).items = of.0 in
+    let same : length (answers i.asked i.attempt).items ≡ i.decided + length st.inside = omega arith in
+    ending_comes table request answers st i e a on is takes.listed same of.1
+
+parent_keeps : (table : TableDecl) (request : ScanRequest) (answers : Answers) (st : Scan) (o : Outer) (place : ℕ) (x : Cell) (lt : Bool) → nat_lt place (o.walked + length o.waiting) ≡ lt → Agrees table request answers st → st.end ≡ None → st.outer ≡ Some o
+    → o.listed ≡ true → o.ending ≡ None → place ≤ o.walked + length o.waiting → slice_get (answers (call.Parents table.name) o.attempt).items place ≡ Some x → Keeps table request answers st (if lt then st else parent_came st o x) []
+parent_keeps table request answers st o place x true e a on is listed going next piece = keeps_none table request answers st st refl a
+parent_keeps table request answers st o place x false e a on is listed going next piece =
+    let past : o.walked + length o.waiting ≤ place = grind (arith, nat_tests, e) in
+    let here : place ≡ o.walked + length o.waiting = omega arith in
+    parent_comes table request answers st o x a on is listed going (ap (slice_get (answers (call.Parents table.name) o.attempt).items) (sym here) ∙ piece)
+
+outer_within : (table : TableDecl) (answers : Answers) (st : Scan) (o : Outer) → OuterCame table answers st.outer → st.outer ≡ Some o → o.walked + length o.waiting ≤ length (answers (call.Parents table.name) o.attempt).items
+outer_within table answers st o came is =
+    let h : HasCome o.walked o.waiting o.ending o.listed (answers (call.Parents table.name) o.attempt) = subst (λ (x : Option Outer). OuterCame table answers x) is came in
+    all_came o.walked (answers (call.Parents table.name) o.attempt).items o.waiting h.later h.rest h.within
+
+pub outer_hears : (table : TableDecl) (request : ScanRequest) (answers : Answers) (st : Scan) (o : Outer) (p : Piece) → Agrees table request answers st → st.end ≡ None → st.outer ≡ Some o → OuterTakes o p → IsPieceOfSeen (answers (call.Parents table.name) o.attempt) p
+    → Keeps table request answers st (outer_heard st o p) []
+outer_hears table request answers st o (piece.Item place x) a on is takes of = parent_keeps table request answers st o place x (nat_lt place (o.walked + length o.waiting)) refl a on is takes.listed takes.going takes.next of
+outer_hears table request answers st o (piece.Ending count e) a on is takes of =
+    let within : o.walked + length o.waiting ≤ length (answers (call.Parents table.name) o.attempt).items = outer_within table answers st o a.outer is in
+    let next : count ≤ o.walked + length o.waiting = takes.next in
+    let all : count ≡ length (answers (call.Parents table.name) o.attempt).items = of.0 in
+    let same : length (answers (call.Parents table.name) o.attempt).items ≡ o.walked + length o.waiting = omega arith in
+    parents_end table request answers st o e a on is takes.listed same of.1

@@ -5,3 +5,4 @@ pub mod Cells
 pub mod Moving
 pub mod Ending
 pub mod Weighing
+pub mod Heard

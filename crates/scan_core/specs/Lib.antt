@@ -3,3 +3,5 @@ pub mod Calls
 pub mod Courses
 pub mod Next
 pub mod Weights
+pub mod Hearing
+pub mod Laws

@@ -9,6 +9,8 @@ mod advance;
 mod calls;
 mod course;
 mod deciding;
+mod hearing;
+mod laws;
 mod lists;
 mod meeting;
 mod moves;
@@ -17,3 +19,5 @@ mod refusing;
 mod scope;
 mod step;
 mod verdicts;
+
+pub use laws::{parents_piece_is_taken_in, piece_is_taken_in, scan_goes_on};
