@@ -1,0 +1,26 @@
+-- What the steps of a scan mean by whatever is answered.
+use Rattle.std.specs.Prelude.{◌≡◌, ℕ, [], Some, None}
+use Rattle.sp_model.specs.Settling.{Answers}
+use Rattle.sp_model.specs.declared.call.Call.TheVariants as call
+use Rattle.sp_model.specs.declared.call.Piece.{Piece}
+use Rattle.sp_model.specs.declared.declaration.TableDecl.{TableDecl}
+use Rattle.sp_model.specs.declared.scan.ScanRequest.{ScanRequest}
+use Rattle.row_flight.specs.Hearing.{IsPieceOfSeen}
+use Rattle.scan_laws.specs.Flights.{AreApart}
+use Rattle.scan_laws.specs.Scans.{Agrees, Keeps}
+use Rattle.scan_laws.specs.States.{Outer, Inner, Scan}
+use Rattle.scan_core.specs.Advances.{Advances}
+use Rattle.scan_core.specs.Hearing.{inner_heard, InnerTakes, outer_heard, OuterTakes}
+
+-- whatever the scan agrees with, it agrees with after its steps, and they list nothing
+abbrev pub ScanGoesOn : Type 0
+ScanGoesOn = (table : TableDecl) (request : ScanRequest) (window : ℕ) (answers : Answers) (st t : Scan) → AreApart table → Agrees table request answers st → Advances table request window st t → Keeps table request answers st t []
+
+-- a piece of what is answered keeps it so
+abbrev pub PieceIsTakenIn : Type 0
+PieceIsTakenIn = (table : TableDecl) (request : ScanRequest) (answers : Answers) (st : Scan) (i : Inner) (p : Piece) → Agrees table request answers st → st.end ≡ None → st.inner ≡ Some i → InnerTakes st i p → IsPieceOfSeen (answers i.asked i.attempt) p
+    → Keeps table request answers st (inner_heard st i p) []
+
+abbrev pub ParentsPieceIsTakenIn : Type 0
+ParentsPieceIsTakenIn = (table : TableDecl) (request : ScanRequest) (answers : Answers) (st : Scan) (o : Outer) (p : Piece) → Agrees table request answers st → st.end ≡ None → st.outer ≡ Some o → OuterTakes o p
+    → IsPieceOfSeen (answers (call.Parents table.name) o.attempt) p → Keeps table request answers st (outer_heard st o p) []
