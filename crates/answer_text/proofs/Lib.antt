@@ -1,5 +1,6 @@
 mod Fields
 mod Growing
 mod JsonRows
+mod Plain
 mod Rests
 mod Texts

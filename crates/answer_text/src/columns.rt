@@ -1,6 +1,7 @@
 // Texts in columns: escaped, counted in characters, filled.
 
 ghost use Rattle.std.specs.Prelude.{◌≡◌, ◌<◌, ◌++◌, ℕ, IfOk, OnOk, count_by, replicate};
+ghost use Rattle.std.specs.List.{list_any};
 ghost use Rattle.answer_text.specs.Columns.{hex_digit, is_control, escaped_byte, escaped, is_first, characters, filled};
 
 use crate::spelled::push_all;
@@ -21,7 +22,7 @@ fn hex_digit(number: u8) -> u8
 fn push_escaped_byte(text: &mut Vec<u8>, byte: u8) -> Result<(), Memory>
     ensures { OnOk result (text.new.items ≡ text.old.items ++ escaped_byte byte) }
 {
-    if byte < 32 || byte == 127 {
+    if is_control(byte) {
         push_all(text, b"\\u00")?;
         push_all(text, &[hex_digit(byte / 16), hex_digit(byte % 16)])
     } else {
@@ -29,8 +30,31 @@ fn push_escaped_byte(text: &mut Vec<u8>, byte: u8) -> Result<(), Memory>
     }
 }
 
+fn is_control(byte: u8) -> bool
+    ensures { result ≡ is_control byte }
+{
+    byte < 32 || byte == 127
+}
+
+fn has_control(words: &[u8]) -> bool
+    ensures { result ≡ list_any is_control words.now }
+{
+    words.iter().any(|byte| is_control(*byte))
+}
+
 /// Appends a text, each control character as `\u` and four hexadecimal digits.
+#[tactic(auto, using(crate::proofs::Plain::plain))]
 pub(crate) fn push_escaped(text: &mut Vec<u8>, words: &[u8]) -> Result<(), Memory>
+    ensures { OnOk result (text.new.items ≡ text.old.items ++ escaped words.now) }
+{
+    if has_control(words) {
+        push_each_escaped(text, words)
+    } else {
+        push_all(text, words)
+    }
+}
+
+fn push_each_escaped(text: &mut Vec<u8>, words: &[u8]) -> Result<(), Memory>
     ensures { OnOk result (text.new.items ≡ text.old.items ++ escaped words.now) }
 {
     for byte in words {

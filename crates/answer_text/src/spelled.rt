@@ -79,3 +79,12 @@ pub(crate) fn spelled(alloc: Global, kind: Kind, cell: &Cell) -> Result<Vec<u8>,
     push_spelled(alloc, &mut text, kind, cell)?;
     Ok(text)
 }
+
+/// The compact JSON of a value, as a text of its own.
+pub(crate) fn spelled_json(alloc: Global, cell: &Cell) -> Result<Vec<u8>, Memory>
+    ensures { IfOk result (λ v. v.items ≡ cell_json cell.now) }
+{
+    let mut text = Vec::new(alloc);
+    push_json(alloc, &mut text, cell)?;
+    Ok(text)
+}
