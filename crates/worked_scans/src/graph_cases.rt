@@ -16,6 +16,7 @@ pub fn outcome(alloc: Global, call: &str, given: &[Vec<u8>]) -> Option<String> {
     }
 }
 
+#[tactic(auto, using(crate::proofs::Rows::few_functions, crate::proofs::Rows::columns_rest))]
 fn plan_at(alloc: Global, given: &[Vec<u8>]) -> Option<Arc<RowPlan>> {
     let table = table_at(alloc, given, 0)?;
     let columns = texts_of(alloc, str_at(given, 1)?)?;
@@ -55,8 +56,7 @@ fn ready_words(alloc: Global, graph: &RowGraph) -> Option<String> {
 
 fn number_of(graph: &RowGraph, name: &str) -> Option<u32> {
     let functions = graph.plan().functions();
-    let number = functions.iter().position(|f| f.name.as_str() == name)?;
-    Some(number as u32)
+    u32::try_from(functions.iter().position(|f| f.name.as_str() == name)?).ok()
 }
 
 fn step(alloc: Global, graph: &mut RowGraph, text: &str) -> Option<String> {
@@ -79,6 +79,7 @@ fn outcome_of(alloc: Global, name: &str, how: &str) -> Option<Outcome> {
     }
 }
 
+#[tactic(auto, using(crate::proofs::Rows::broken))]
 fn end_words(alloc: Global, graph: &RowGraph) -> Option<String> {
     match graph.finished() {
         None => word(alloc, "waits"),

@@ -2,7 +2,7 @@
 
 ghost use Rattle.std.specs.Prelude.{◌≡◌, IfSome};
 ghost use Rattle.std.specs.Arc.{arc_value};
-ghost use Rattle.sp_model.specs.declared.call.Asked.TheVariants as asked;
+ghost use Rattle.sp_model.specs.declared.call.Asked.TheVariants as asks;
 ghost use Rattle.sp_world.specs.Pieces.{IsSoundPiece};
 
 use crate::tables::spelled;
@@ -55,7 +55,7 @@ fn step(
     stream: &mut ListStream<Untold>,
     text: &str,
 ) -> Option<String>
-    requires { arc_value asked.now ≡ asked.Call stream.old.call }
+    requires { arc_value asked.now ≡ asks.Call stream.old.call }
     ensures { stream.new.call ≡ stream.old.call }
 {
     match text {
@@ -86,7 +86,7 @@ fn feed(
     stream: &mut ListStream<Untold>,
     text: &str,
 ) -> Option<String>
-    requires { arc_value asked.now ≡ asked.Call stream.old.call }
+    requires { arc_value asked.now ≡ asks.Call stream.old.call }
     ensures { stream.new.call ≡ stream.old.call }
 {
     let asked = Arc::try_clone(asked).ok()?;
