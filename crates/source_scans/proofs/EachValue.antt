@@ -1,5 +1,5 @@
 -- Values that are put one after another, each once, are the distinct values.
-use Rattle.std.proofs.Common.{◌≡◌, Bool, true, false, ◌&&◌, ◌||◌, not, cond, List, [], ◌∷◌, ◌++◌, map, refl, sym, ap, ◌∙◌}
+use Rattle.std.proofs.Common.{◌≡◌, Bool, true, false, ◌&&◌, ◌||◌, not, cond, List, [], ◌∷◌, ◌++◌, map, refl, ap, ◌∙◌}
 use Rattle.std.proofs.lemmas.List.{append_assoc, map-append}
 use Rattle.std.proofs.lemmas.List.Folds.{list_any-append}
 use Rattle.std.specs.List.{list_any}
@@ -7,7 +7,7 @@ use Rattle.sp_value.specs.declared.cell.Cell.{Cell}
 use Rattle.sp_model.specs.Conditions.{is_scalar}
 use Rattle.sp_model.specs.Units.{same_scalar, distinct_values}
 use Rattle.source_scans.proofs.SameValues.{same_values}
-use Rattle.source_scans.specs.Distinct.{same_scalar_value, with_scalar, with_value}
+use Rattle.source_scans.specs.Distinct.{same_scalar_value, with_value}
 use Rattle.source_scans.specs.declared.distinct.Scalar.{Scalar}
 
 abbrev pub values : List Scalar → List Cell

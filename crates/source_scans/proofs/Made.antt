@@ -11,10 +11,10 @@ use Rattle.std.specs.declared.cmp.Ordering.{Ordering}
 use Rattle.std.specs.declared.cmp.Ordering.TheVariants.{Less, Equal, Greater}
 use Rattle.sp_value.specs.declared.cell.Cell.{Cell}
 use Rattle.sp_model.proofs.PlainLists.{any_there}
-use Rattle.sp_model.specs.Conditions.{is_canonical, is_scalar, condition_cmp}
+use Rattle.sp_model.specs.Conditions.{is_canonical, condition_cmp}
 use Rattle.sp_model.specs.Keys.{is_on, is_sent, equals, with_equals, has_condition, is_required, is_any_of, is_met, put_condition, canonical}
 use Rattle.sp_model.specs.Names.{has_name}
-use Rattle.sp_model.specs.Requests.{IsRequestOf, keys_for, are_sent}
+use Rattle.sp_model.specs.Requests.{keys_for, are_sent}
 use Rattle.sp_model.specs.Units.{all_agree, unit_of_sent, with_value}
 use Rattle.sp_model.specs.declared.call.Condition.{Condition}
 use Rattle.sp_model.specs.declared.declaration.KeyDecl.{KeyDecl}

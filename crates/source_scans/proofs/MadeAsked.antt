@@ -1,20 +1,18 @@
 -- Requests that are made keep what the law of kept scans asks of them.
-use Rattle.std.proofs.Common.{◌≡◌, ℕ, Bool, true, false, ◌&&◌, List, Option, Some, refl, sym, ap, ◌∙◌}
+use Rattle.std.proofs.Common.{◌≡◌, Bool, true, ◌&&◌, List, Option, Some, sym, ap, ◌∙◌}
 use Rattle.std.proofs.lemmas.Bool.{and_from}
 use Rattle.std.specs.Arc.{arc_value}
 use Rattle.std.specs.List.{list_all}
-use Rattle.sp_model.specs.Calls.{fit_keys}
 use Rattle.sp_model.specs.Conditions.{is_canonical}
-use Rattle.sp_model.specs.Keys.{is_sent, is_met}
+use Rattle.sp_model.specs.Keys.{is_sent}
 use Rattle.sp_model.specs.Names.{has_name}
-use Rattle.sp_model.specs.Requests.{keys_for, are_sent, is_positive}
+use Rattle.sp_model.specs.Requests.{keys_for, are_sent}
 use Rattle.sp_model.specs.declared.declaration.KeyDecl.{KeyDecl}
 use Rattle.sp_model.specs.declared.declaration.TableDecl.{TableDecl}
 use Rattle.sp_model.specs.declared.scan.ScanRequest.{ScanRequest}
 use Rattle.model_laws.proofs.Merging.{left, right}
 use Rattle.source_scans.specs.Asked.{MadeRequestsAreAsked}
-use Rattle.source_scans.specs.Planned.{IsPlanned, IsMadeBy, unlimited}
-use Rattle.source_scans.specs.declared.source.PlanSource.{PlanSource}
+use Rattle.source_scans.specs.Planned.{unlimited}
 
 opened : (keys : Option (List KeyDecl)) (ks : List KeyDecl) (r : ScanRequest) → keys ≡ Some ks → are_sent keys r ≡ true
     → (is_canonical r.conditions && list_all (is_sent ks) r.conditions && list_all (λ c. has_name r.columns c.column) r.conditions) ≡ true

@@ -5,17 +5,16 @@ use Rattle.std.proofs.lemmas.List.{map-append}
 use Rattle.std.specs.List.{list_all, filter_map, flat_map, cons_option}
 use Rattle.sp_value.specs.declared.cell.Cell.{Cell}
 use Rattle.sp_model.specs.Keys.{is_sent, equals}
-use Rattle.sp_model.specs.Units.{ScanUnit, distinct_values, unit_of, unit_of_sent, with_value, fanned, units, flat_map as each_of}
+use Rattle.sp_model.specs.Units.{unit_of, unit_of_sent, with_value, fanned, flat_map as each_of}
 use Rattle.sp_model.specs.declared.call.Condition.{Condition}
 use Rattle.sp_model.specs.declared.declaration.KeyDecl.{KeyDecl}
 use Rattle.model_laws.proofs.Merging.{left, right}
 use Rattle.source_scans.specs.Asking.{condition_at, fan_of, unit_scan, units_at}
-use Rattle.source_scans.specs.Collecting.{with_fan, scans_under, scans_at}
-use Rattle.source_scans.specs.Planned.{IsPlannedFan, IsFan, IsPlanned, conditions_of}
+use Rattle.source_scans.specs.Collecting.{with_fan, scans_at}
+use Rattle.source_scans.specs.Planned.{IsFan, IsPlanned, conditions_of}
 use Rattle.source_scans.specs.declared.source.Fan.{Fan}
 use Rattle.source_scans.specs.declared.source.PlanCondition.{PlanCondition}
 use Rattle.source_scans.specs.declared.source.PlanSource.{PlanSource}
-use Rattle.source_scans.specs.declared.unit_scan.UnitScan.{UnitScan}
 
 -- whether a condition is sent doesn't depend on the left row
 pub sent_anywhere : (keys : List KeyDecl) (row : List Cell) (cs : List PlanCondition) → list_all (is_sent keys) (map (condition_at row) cs) ≡ list_all (is_sent keys) (conditions_of cs)

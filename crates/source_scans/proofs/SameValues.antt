@@ -1,5 +1,5 @@
 -- Values told apart by their parts are those that the order of values tells apart.
-use Rattle.std.proofs.Common.{◌≡◌, ℕ, ℤ, pos, Bool, true, false, ◌&&◌, List, [], refl, ap, ◌∙◌, bytes_eq, nat_eq, Ordering, Less, Equal, Greater}
+use Rattle.std.proofs.Common.{◌≡◌, pos, Bool, true, false, ◌&&◌, [], refl, ◌∙◌, bytes_eq, nat_eq, Ordering, Less, Equal, Greater}
 use Rattle.std.specs.Cmp.Lexicographic.{slice_cmp, texts_ties}
 use Rattle.std.specs.Ordering.{nat_cmp, int_cmp, int_eq, is_eq, match_ordering}
 use Rattle.sp_value.specs.declared.cell.Cell.{Cell}

@@ -1,6 +1,6 @@
 -- The scans of a left row, as they are collected.
-use Rattle.std.specs.Prelude.{ℕ, List, [], ◌∷◌, ◌++◌, map, Option, Some, None}
-use Rattle.std.specs.List.{filter_map, flat_map}
+use Rattle.std.specs.Prelude.{ℕ, List, [], ◌∷◌, map, Option, Some, None}
+use Rattle.std.specs.List.{filter_map}
 use Rattle.sp_value.specs.declared.cell.Cell.{Cell}
 use Rattle.sp_model.specs.Units.{unit_of_sent, with_value}
 use Rattle.sp_model.specs.declared.call.Condition.{Condition}

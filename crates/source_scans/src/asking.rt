@@ -100,7 +100,9 @@ fn all_agree(conditions: &[Condition]) -> bool
 fn are_scalar(conditions: &[Condition]) -> bool
     ensures { result ≡ list_all (λ condition. is_scalar condition.value) conditions.now }
 {
-    conditions.iter().all(|condition| is_scalar(&condition.value))
+    conditions
+        .iter()
+        .all(|condition| is_scalar(&condition.value))
 }
 
 /// Puts the scan of a connection under these conditions at the end, where there is one.
@@ -200,11 +202,7 @@ fn push_scans(
     }
 }
 
-fn all_scans(
-    alloc: Global,
-    source: &PlanSource,
-    left: &[Cell],
-) -> Result<Items<UnitScan>, Memory>
+fn all_scans(alloc: Global, source: &PlanSource, left: &[Cell]) -> Result<Items<UnitScan>, Memory>
     ensures { IfOk result (λ units. units ≡ flat_map (scans_at source.now left.now) source.now.connections) }
 {
     let mut units = Items::new(alloc);

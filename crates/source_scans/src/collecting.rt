@@ -25,11 +25,7 @@ fn copy_of(alloc: Global, unit: &UnitScan) -> Result<UnitScan, Memory>
 }
 
 /// Puts a scan at the end, unless an equal one is there, and answers its place.
-fn place_of(
-    alloc: Global,
-    found: &mut IndexSet<UnitScan>,
-    unit: &UnitScan,
-) -> Result<u32, Memory>
+fn place_of(alloc: Global, found: &mut IndexSet<UnitScan>, unit: &UnitScan) -> Result<u32, Memory>
     ensures found { OnOk result (found.new.keys ≡ with_unit found.old.keys unit.now) }
     ensures place { IfOk result (λ place. place ≡ place_of found.old.keys unit.now) }
 {

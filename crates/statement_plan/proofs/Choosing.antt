@@ -1,8 +1,7 @@
 -- What an answer of a choice says of the choice.
 use Rattle.std.proofs.Common.{◌≡◌, ℕ, List, Result, Ok, Err, sym, ap}
 use Rattle.access_choice.specs.Choices.{IsChoice}
-use Rattle.access_choice.specs.declared.fault.ChoiceFault.{ChoiceFault}
-use Rattle.access_choice.specs.declared.fault.ChoiceFault.TheVariants.{MissingKeys, Memory}
+use Rattle.access_choice.specs.declared.fault.ChoiceFault.TheVariants.{MissingKeys}
 use Rattle.sp_model.specs.declared.scan.Access.{Access}
 
 pub taken : (choice : Result Access (List (List ℕ))) (access : Access) → IsChoice choice (Ok access) → choice ≡ Ok access

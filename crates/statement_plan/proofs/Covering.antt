@@ -1,18 +1,13 @@
 -- The columns that conditions and lists name are among those that the source's rows have.
-use Rattle.std.proofs.Common.{◌≡◌, ℕ, zero, suc, Bool, true, false, ◌&&◌, ◌||◌, List, [], ◌∷◌, ◌++◌, map, filter, cond, Option, Some, None, option_map, slice_get, bytes_eq, nat_lt, if◌then◌else◌, refl, sym, ap, ◌∙◌, subst}
-use Rattle.std.proofs.lemmas.Bool.{and_from}
+use Rattle.std.proofs.Common.{◌≡◌, ℕ, zero, suc, Bool, true, false, ◌||◌, List, [], ◌∷◌, ◌++◌, cond, Some, slice_get, bytes_eq, refl, sym, ap, ◌∙◌}
 use Rattle.std.proofs.lemmas.List.{append_assoc, map-append}
 use Rattle.std.proofs.lemmas.List.Elements.{filter-append}
-use Rattle.std.proofs.lemmas.List.Folds.{list_all-append}
 use Rattle.std.proofs.lemmas.Slice.Eq.{bytes_eq-Decides}
-use Rattle.std.specs.List.{list_all, list_any, flat_map, filter_map, cons_option}
-use Rattle.std.specs.Option.{option_or}
 use Rattle.sp_model.proofs.PlainLists.{any_there}
 use Rattle.sp_model.specs.Names.{has_name}
 use Rattle.sp_model.specs.RowOf.{names_of_columns, columns_named}
 use Rattle.sp_model.specs.declared.declaration.ColumnDecl.{ColumnDecl}
 use Rattle.model_laws.proofs.FewerColumns.{bytes_itself}
-use Rattle.model_laws.proofs.Merging.{left, right}
 
 -- ---- columns among columns
 

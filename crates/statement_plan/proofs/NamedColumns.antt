@@ -1,9 +1,9 @@
 -- What is sent and what is listed are on columns that the source's rows have.
-use Rattle.std.proofs.Common.{◌≡◌, ℕ, zero, suc, ◌==◌, Bool, true, false, ◌&&◌, List, [], ◌∷◌, ◌++◌, map, filter, cond, Option, Some, None, option_map, option_and_then, slice_get, bytes_eq, nat_lt, if◌then◌else◌, refl, sym, ap, ◌∙◌, subst, eqb-true}
+use Rattle.std.proofs.Common.{◌≡◌, ℕ, ◌==◌, Bool, true, false, ◌&&◌, List, [], ◌∷◌, ◌++◌, map, Option, Some, None, option_map, option_and_then, slice_get, bytes_eq, nat_lt, if◌then◌else◌, refl, sym, ap, ◌∙◌, subst, eqb-true}
 use Rattle.std.proofs.lemmas.Bool.{and_from}
 use Rattle.std.proofs.lemmas.List.{append_assoc}
 use Rattle.std.proofs.lemmas.List.Folds.{list_all-append}
-use Rattle.std.specs.List.{list_all, list_any, flat_map, filter_map, cons_option}
+use Rattle.std.specs.List.{list_all, flat_map, filter_map, cons_option}
 use Rattle.std.specs.Option.{option_or}
 use Rattle.sp_value.specs.declared.cell.Cell.{Cell}
 use Rattle.sp_value.specs.declared.truth.Op.{Op}
@@ -33,7 +33,7 @@ use Rattle.statement_plan.proofs.Covering.{column_there}
 use Rattle.statement_plan.proofs.ReadLaws.{reads_and}
 use Rattle.statement_plan.specs.Columns.{columns_of, columns_layer, columns_in, operand_columns, asked_columns, named, column_in, column_name, name_within, names_within, columns_for, place_of}
 use Rattle.statement_plan.specs.Conjuncts.{conjuncts, conjuncts_in, conjuncts_of}
-use Rattle.statement_plan.specs.Reading.{is_null, turned, with_literal, with_left, of_columns, compared, asked_condition, condition_layer, condition_of, asked_list, list_layer, list_of}
+use Rattle.statement_plan.specs.Reading.{is_null, turned, with_left, compared, asked_condition, condition_layer, condition_of, asked_list, list_layer}
 use Rattle.statement_plan.specs.Sources.{conditions_from, listed_column, listed_from}
 
 abbrev pub all_given : {X : Type 0} → (X → Bool) → Option X → Bool

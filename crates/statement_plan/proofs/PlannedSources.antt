@@ -1,11 +1,10 @@
 -- Sources that are planned one after another.
-use Rattle.std.proofs.Common.{◌≡◌, ℕ, suc, ◌+◌, ◌<◌, List, [], ◌∷◌, ◌++◌, Option, Some, None, Result, Ok, Err, length, take, drop, get_or, refl, sym, ap, ◌∙◌, subst, arith}
-use Rattle.sp_model.specs.declared.scan.Access.{Access}
+use Rattle.std.proofs.Common.{◌≡◌, ℕ, ◌+◌, List, [], ◌∷◌, ◌++◌, Some, length, sym, ap, ◌∙◌, subst, arith}
 use Rattle.source_scans.specs.declared.source.PlanSource.{PlanSource}
 use Rattle.sql_bind.specs.declared.bound.Bound.{Bound}
 use Rattle.sql_bind.specs.declared.bound.BoundSource.{BoundSource}
 use Rattle.statement_plan.specs.Plans.{AreSourcesOf, missing_or, missing_from, IsMissingIn, IsMissingFrom}
-use Rattle.statement_plan.specs.Sources.{choice_for, IsSourceOf}
+use Rattle.statement_plan.specs.Sources.{IsSourceOf}
 use Rattle.statement_plan.specs.declared.plan.PlanFault.{PlanFault}
 use Rattle.statement_plan.specs.declared.plan.PlanFault.TheVariants as fault
 

@@ -1,16 +1,14 @@
 -- The sources of a plan are as requests are made of them.
-use Rattle.std.proofs.Common.{◌≡◌, ℕ, zero, suc, ◌+◌, Bool, true, false, ◌&&◌, List, [], ◌∷◌, ◌++◌, map, filter, cond, Option, Some, None, option_map, slice_get, All, length, refl, sym, ap, ◌∙◌, subst, arith}
+use Rattle.std.proofs.Common.{◌≡◌, ℕ, ◌+◌, Bool, true, false, List, [], ◌∷◌, ◌++◌, filter, cond, Option, Some, None, slice_get, All, length, refl, sym, ap, ◌∙◌, subst}
 use Rattle.std.proofs.lemmas.Bool.{and_from}
 use Rattle.std.proofs.lemmas.List.{append_assoc, length_push}
 use Rattle.std.proofs.lemmas.List.Elements.{All-nil, All-cons}
 use Rattle.std.specs.Arc.{arc_value}
 use Rattle.std.specs.List.{list_all}
-use Rattle.sp_value.specs.declared.cell.Cell.{Cell}
-use Rattle.sp_model.specs.Keys.{is_sent, equals, fan_of, with_equals, is_met}
+use Rattle.sp_model.specs.Keys.{is_sent, fan_of, with_equals, is_met}
 use Rattle.sp_model.specs.Names.{has_name}
 use Rattle.sp_model.specs.Requests.{keys_for, fan_in, fan_for, subset_for}
 use Rattle.sp_model.specs.RowOf.{names_of_columns, columns_named}
-use Rattle.sp_model.specs.Units.{distinct_values}
 use Rattle.sp_model.specs.declared.call.Condition.{Condition}
 use Rattle.sp_model.specs.declared.declaration.KeyDecl.{KeyDecl}
 use Rattle.sp_model.specs.declared.declaration.TableDecl.{TableDecl}
@@ -18,8 +16,7 @@ use Rattle.sp_model.specs.declared.scan.Access.{Access}
 use Rattle.model_laws.proofs.Merging.{left, right}
 use Rattle.source_scans.proofs.EachValue.{again as distinct_again}
 use Rattle.source_scans.specs.Asking.{condition_at}
-use Rattle.source_scans.specs.Planned.{IsPlannedFan, IsFan, IsPlanned, conditions_of, fan_column}
-use Rattle.source_scans.specs.declared.source.Fan.{Fan}
+use Rattle.source_scans.specs.Planned.{IsFan, IsPlanned, conditions_of, fan_column}
 use Rattle.source_scans.specs.declared.source.PlanCondition.{PlanCondition}
 use Rattle.source_scans.specs.declared.source.PlanSource.{PlanSource}
 use Rattle.sql_bind.specs.declared.bound.Bound.{Bound}
@@ -31,7 +28,7 @@ use Rattle.statement_plan.proofs.NamedColumns.{covered, all_read, conditions_on,
 use Rattle.statement_plan.specs.Columns.{columns_of, named, names_within, columns_for, layout_of}
 use Rattle.statement_plan.specs.Conjuncts.{conjuncts_of}
 use Rattle.statement_plan.specs.Plans.{AreSourcesOf}
-use Rattle.statement_plan.specs.Sources.{conditions_from, is_sent_on, sent_from, asked_for, listed_for, fan_by, values_under, IsSourceOf}
+use Rattle.statement_plan.specs.Sources.{conditions_from, is_sent_on, asked_for, listed_for, fan_by, values_under, IsSourceOf}
 
 -- ---- sent conditions
 

@@ -1,5 +1,5 @@
 -- The columns that a statement names, and where they stand in its rows.
-use Rattle.std.specs.Prelude.{ℕ, zero, suc, ◌+◌, ◌==◌, List, [], ◌∷◌, ◌++◌, map, length, slice_get, unwrap_or, bytes_eq, Option, Some, None, option_map, option_and_then, if◌then◌else◌}
+use Rattle.std.specs.Prelude.{ℕ, zero, suc, ◌+◌, ◌==◌, List, [], ◌∷◌, ◌++◌, map, length, slice_get, unwrap_or, bytes_eq, Option, None, option_map, option_and_then, if◌then◌else◌}
 use Rattle.std.specs.List.{flat_map, filter_map, position_or_len}
 use Rattle.std.specs.Option.{option_map_or}
 use Rattle.sp_model.specs.RowOf.{names_of_columns, columns_named}

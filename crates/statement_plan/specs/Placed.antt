@@ -1,5 +1,5 @@
 -- Conditions, order and shown columns by the places of columns.
-use Rattle.std.specs.Prelude.{ℕ, max, List, [], ◌∷◌, map}
+use Rattle.std.specs.Prelude.{ℕ, max, List, [], ◌∷◌}
 use Rattle.row_algebra.specs.declared.condition.RowAsked.{RowAsked}
 use Rattle.row_algebra.specs.declared.condition.RowAsked.TheVariants as row_asked
 use Rattle.row_algebra.specs.declared.condition.RowOperand.{RowOperand}

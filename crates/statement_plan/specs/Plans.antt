@@ -4,7 +4,6 @@ use Rattle.sp_value.specs.declared.cell.Cell.{Cell}
 use Rattle.sp_model.specs.declared.scan.Access.{Access}
 use Rattle.row_algebra.specs.RowOrder.{ordered}
 use Rattle.row_algebra.specs.RowTruth.{cell_at}
-use Rattle.row_algebra.specs.declared.ordering.OrderKey.{OrderKey}
 use Rattle.source_scans.specs.declared.source.PlanSource.{PlanSource}
 use Rattle.sql_bind.specs.declared.bound.Bound.{Bound}
 use Rattle.sql_bind.specs.declared.bound.BoundSource.{BoundSource}

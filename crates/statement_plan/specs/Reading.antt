@@ -1,6 +1,5 @@
 -- What the conjuncts of a statement say of a source.
-use Rattle.std.specs.Prelude.{ℕ, Bool, true, false, ◌&&◌, not, ◌==◌, nat_lt, List, [], ◌∷◌, map, Option, Some, None, option_map, if◌then◌else◌}
-use Rattle.std.specs.List.{filter_map}
+use Rattle.std.specs.Prelude.{ℕ, Bool, true, false, nat_lt, List, Option, None, option_map, if◌then◌else◌}
 use Rattle.std.specs.Option.{option_or}
 use Rattle.sp_value.specs.declared.cell.Cell.{Cell}
 use Rattle.sp_value.specs.declared.cell.Cell.TheOpen.{Cell-F}

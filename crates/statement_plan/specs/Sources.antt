@@ -1,5 +1,5 @@
 -- The sources of a plan, of the sources of a statement.
-use Rattle.std.specs.Prelude.{◌≡◌, ℕ, ◌+◌, ◌==◌, Bool, true, false, ◌&&◌, ◌||◌, not, List, [], ◌∷◌, map, filter, length, Option, Some, None, is_some, option_map, Result, Ok, Err, if◌then◌else◌, bytes_eq}
+use Rattle.std.specs.Prelude.{◌≡◌, ℕ, ◌==◌, Bool, true, false, ◌&&◌, List, [], ◌∷◌, map, filter, length, Option, Some, None, option_map, Result, Ok, if◌then◌else◌, bytes_eq}
 use Rattle.std.specs.Arc.{arc_value}
 use Rattle.std.specs.List.{filter_map, list_all}
 use Rattle.sp_value.specs.declared.cell.Cell.{Cell}

@@ -24,7 +24,11 @@ pub(crate) fn column_name<'a>(sources: &'a [BoundSource], column: Column) -> Opt
     }
 }
 
-pub(crate) fn name_within<'a>(sources: &'a [BoundSource], source: u32, column: Column) -> Option<&'a Text>
+pub(crate) fn name_within<'a>(
+    sources: &'a [BoundSource],
+    source: u32,
+    column: Column,
+) -> Option<&'a Text>
     ensures { option_map (λ n. n.now) result ≡ name_within sources.now source column }
 {
     if column.source == source {

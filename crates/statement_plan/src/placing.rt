@@ -7,9 +7,7 @@ use crate::columns::push_columns;
 use crate::layout::place_of;
 use row_algebra::{OrderKey, RowAsked, RowOperand, RowTest};
 use sp_value::{Memory, Texts, TryCopy};
-use sql_bind::{
-    BoundAsked, BoundExpr, BoundItem, BoundKey, BoundOperand, BoundSource, Column,
-};
+use sql_bind::{BoundAsked, BoundExpr, BoundItem, BoundKey, BoundOperand, BoundSource, Column};
 use sqlite_items::{Boxed, Items};
 use std::alloc::Global;
 

@@ -122,7 +122,12 @@ fn source_of(
 {
     let listed = listed_from(alloc, of.sources, of.source, said.conjuncts)?;
     let conditions = asked_for(alloc, of, said.conjuncts)?;
-    match choose(alloc, &source.table, conditions.as_slice(), listed.as_slice()) {
+    match choose(
+        alloc,
+        &source.table,
+        conditions.as_slice(),
+        listed.as_slice(),
+    ) {
         Ok(access) => {
             let planned = planned(alloc, said, of, source, access, listed.as_slice())?;
             Ok(planned)
@@ -143,11 +148,7 @@ fn missing(source: u32, columns: Texts) -> PlanFault
 }
 
 /// The sources of a statement, or the keys that the first one lacks which lacks some.
-fn sources_of(
-    alloc: Global,
-    said: &Said,
-    layout: &[Texts],
-) -> Result<Items<PlanSource>, PlanFault>
+fn sources_of(alloc: Global, said: &Said, layout: &[Texts]) -> Result<Items<PlanSource>, PlanFault>
     requires { IsSaid said.now.bound.now said.now.named.now (map (λ e. e.now) said.now.conjuncts.now) said.now.bound.now.sources layout.now }
     ensures ok { IfOk result (λ ps. AreSourcesOf said.now.bound.now 0 said.now.bound.now.sources ps) }
     ensures complete { OnOk result (missing_from said.now.bound.now 0 said.now.bound.now.sources ≡ None) }

@@ -241,11 +241,7 @@ fn subset_of_list(alloc: Global, list: &Option<ListDecl>) -> Result<Texts, Memor
 
 /// The key columns of an access that only filter.
 #[tactic(auto, unfolding(sp_model::specs::Requests::subset_for))]
-pub(crate) fn subset_for(
-    alloc: Global,
-    table: &TableDecl,
-    access: Access,
-) -> Result<Texts, Memory>
+pub(crate) fn subset_for(alloc: Global, table: &TableDecl, access: Access) -> Result<Texts, Memory>
     ensures { IfOk result (λ names. names ≡ subset_for table.now access) }
 {
     match access {

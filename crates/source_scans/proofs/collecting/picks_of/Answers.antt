@@ -1,9 +1,8 @@
-use Rattle.std.proofs.Common.{◌≡◌, ◌++◌, ◌∷◌, ◌+◌, List, ℕ, map, drop, arith, sym, ap, ◌∙◌}
+use Rattle.std.proofs.Common.{◌≡◌, ◌++◌, ◌∷◌, ◌+◌, List, map, drop, arith, sym, ap, ◌∙◌}
 use Rattle.std.proofs.lemmas.Grind.{common_steps}
 use Rattle.std.specs.List.{flat_map}
 use Rattle.sp_value.specs.declared.cell.Cell.{Cell}
 use Rattle.source_scans.specs.Asking.{each_once, units_at, units_of, place_of, picks_of}
-use Rattle.source_scans.specs.declared.unit_scan.UnitScan.{UnitScan}
 use Rattle.source_scans.proofs.Places.{rest_is, row_turn, each_once_append}
 use Rattle.source_scans.proofs.collecting.picks_of.Goals as goal
 

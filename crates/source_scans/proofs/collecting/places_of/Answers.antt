@@ -1,4 +1,4 @@
-use Rattle.std.proofs.Common.{◌≡◌, ◌++◌, ◌∷◌, ◌+◌, List, ℕ, map, drop, sym, ap, ◌∙◌}
+use Rattle.std.proofs.Common.{◌≡◌, ◌++◌, ◌∷◌, ◌+◌, map, drop, sym, ap, ◌∙◌}
 use Rattle.source_scans.specs.Asking.{each_once, place_of}
 use Rattle.source_scans.proofs.Places.{rest_is, place_turn}
 use Rattle.source_scans.proofs.collecting.places_of.Goals as goal

@@ -1,4 +1,4 @@
-use Rattle.std.proofs.Common.{◌≡◌, ◌++◌, ◌∷◌, [], ◌+◌, drop, sym, ap, ◌∙◌}
+use Rattle.std.proofs.Common.{◌≡◌, ◌++◌, ◌∷◌, ◌+◌, drop, sym, ap, ◌∙◌}
 use Rattle.sp_model.specs.Units.{distinct_values}
 use Rattle.source_scans.proofs.EachValue.{values, turn}
 use Rattle.source_scans.proofs.Places.{rest_is}

@@ -1,5 +1,5 @@
 -- What was fed so far, and what is left to feed.
-use Rattle.std.proofs.Common.{◌≡◌, ◌++◌, fold, drop}
+use Rattle.std.proofs.Common.{◌≡◌, fold, drop}
 use Rattle.std.specs.Hash as fed
 use Rattle.std.specs.List.{flat_map}
 use Rattle.source_scans.specs.Telling.{sent_writes}

@@ -1,6 +1,5 @@
 use Rattle.std.proofs.Common.{◌≡◌, ◌++◌, drop}
-use Rattle.std.specs.List.{filter_map}
-use Rattle.statement_plan.specs.Columns.{name_within, names_within}
+use Rattle.statement_plan.specs.Columns.{names_within}
 use Rattle.statement_plan.proofs.layout.names_within.Given as goal
 
 abbrev pub invariant-loop-column : goal.invariant-loop-column

@@ -1,10 +1,6 @@
-use Rattle.std.proofs.Common.{◌≡◌, ℕ, List, Option, Some, map, option_copied, sym, ap, ◌∙◌}
-use Rattle.sp_model.specs.Requests.{keys_for, fan_for}
-use Rattle.sp_model.specs.declared.declaration.KeyDecl.{KeyDecl}
-use Rattle.sql_bind.specs.declared.bound.BoundExpr.{BoundExpr}
-use Rattle.sql_bind.specs.declared.bound.BoundSource.{BoundSource}
-use Rattle.sql_bind.specs.declared.bound.Column.{Column}
-use Rattle.statement_plan.specs.Columns.{columns_for, named, layout_of}
+use Rattle.std.proofs.Common.{◌≡◌, Some, map, option_copied, sym, ap, ◌∙◌}
+use Rattle.sp_model.specs.Requests.{fan_for}
+use Rattle.statement_plan.specs.Columns.{columns_for, layout_of}
 use Rattle.statement_plan.specs.Conjuncts.{conjuncts_of}
 use Rattle.statement_plan.specs.Sources.{listed_for, sent_from, fan_by, tests_from, pushed_limit}
 use Rattle.statement_plan.proofs.planning.planned.Goals as goal

@@ -1,4 +1,4 @@
-use Rattle.std.proofs.Common.{◌≡◌, ◌+◌, ◌++◌, ◌∷◌, [], length, take, drop, sym, ap, ◌∙◌, subst, arith, rules, ℕ, ◌≤◌, length-take-le}
+use Rattle.std.proofs.Common.{◌≡◌, ◌+◌, ◌++◌, ◌∷◌, [], length, take, drop, sym, ap, ◌∙◌, subst, arith, rules, ◌≤◌, length-take-le}
 use Rattle.std.proofs.lemmas.Grind.{take_at_read}
 use Rattle.source_scans.proofs.Places.{rest_is}
 use Rattle.statement_plan.specs.Plans.{AreSourcesOf, missing_from, IsMissingFrom}
