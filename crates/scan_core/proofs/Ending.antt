@@ -1,23 +1,18 @@
 -- The ending of a call, as the fields of a scan have it.
-use Rattle.std.proofs.Common.{◌≡◌, ◌+◌, ℕ, suc, Bool, true, false, List, [], ◌∷◌, ◌++◌, length, take, drop, Option, Some, None, Result, Ok, Err, OnOk, OnErr, refl, sym, ap, subst, ◌∙◌, arith, not, is_some}
+use Rattle.std.proofs.Common.{◌≡◌, ℕ, Bool, true, false, List, [], ◌++◌, length, take, drop, Option, Some, None, Result, Ok, Err, OnOk, OnErr, refl, sym, ap, subst, ◌∙◌, not, is_some}
 use Rattle.std.proofs.lemmas.List.{take-append-drop}
 use Rattle.std.proofs.Math.Seq.{take-length}
 use Rattle.sp_value.specs.declared.cell.Cell.{Cell}
-use Rattle.sp_model.specs.Settling.{Verdict, Accept, Again, Refuse, Open, judged}
+use Rattle.sp_model.specs.Settling.{Verdict, judged}
 use Rattle.sp_model.specs.Walk.{Source}
 use Rattle.sp_model.specs.declared.call.Ending.{Ending}
 use Rattle.sp_model.specs.declared.declaration.TableDecl.{TableDecl}
-use Rattle.sp_model.specs.declared.outcome.Walk.TheVariants.{Failed}
 use Rattle.sp_model.specs.declared.outcome.WalkState.{WalkState}
-use Rattle.sp_model.specs.declared.scan.Cause.{Cause}
-use Rattle.sp_model.specs.declared.scan.Cause.TheVariants.{Error, TooMany}
 use Rattle.scan_laws.specs.States.{Outer, Inner, Scan}
-use Rattle.scan_laws.specs.Steps.{ended_so}
-use Rattle.scan_core.specs.Advances.{AllDecided, is_too_many, InnerStands, InnerEnds, OuterStands, OuterEnds}
-use Rattle.scan_core.specs.Calls.{source_of, inner_of, inner_view, outer_of, outer_view}
+use Rattle.scan_core.specs.Advances.{is_too_many, InnerStands, InnerEnds, OuterStands, OuterEnds}
+use Rattle.scan_core.specs.Calls.{inner_view}
 use Rattle.scan_core.specs.Next.{InnerSays, OuterSays, outer_source}
 use Rattle.scan_core.specs.declared.calls.ItemsCall.{ItemsCall}
-use Rattle.scan_core.specs.declared.calls.ParentsCall.{ParentsCall}
 use Rattle.scan_core.specs.declared.scope.CallSource.{CallSource}
 
 -- ---- the inner call

@@ -1,5 +1,5 @@
 -- The first of the undecided items, and how many there are.
-use Rattle.std.proofs.Common.{◌≡◌, ℕ, zero, suc, ◌+◌, ◌≤◌, ◌<◌, Bool, true, false, List, [], ◌∷◌, ◌++◌, length, take, drop, map, Option, Some, None, IfSome, refl, sym, ap, subst, ◌∙◌, arith}
+use Rattle.std.proofs.Common.{◌≡◌, ℕ, zero, suc, ◌+◌, ◌<◌, true, false, List, [], ◌∷◌, ◌++◌, length, take, drop, Option, Some, None, refl, sym, ap, subst, ◌∙◌, arith}
 use Rattle.std.specs.Option.{is_some}
 use Rattle.std.proofs.lemmas.List.{length-map, length-append}
 use Rattle.sp_value.specs.declared.cell.Cell.{Cell}
@@ -11,14 +11,11 @@ use Rattle.sp_model.specs.declared.scan.Cause.{Cause}
 use Rattle.std.specs.List.{slice_get}
 use Rattle.sp_model.specs.declared.scan.ScanRequest.{ScanRequest}
 use Rattle.hydrate_graph.specs.Ends.{IsEndOf}
-use Rattle.hydrate_graph.specs.Graphs.{Graph, known, row_so_far}
+use Rattle.hydrate_graph.specs.Graphs.{Graph, row_so_far}
 use Rattle.hydrate_graph.specs.declared.ends.RowEnd.{RowEnd}
 use Rattle.hydrate_graph.specs.declared.ends.RowEnd.TheVariants.{Whole, Fails}
-use Rattle.hydrate_graph.specs.Following.{by_known}
 use Rattle.row_flight.specs.Flying.{InFlight, rows_of, rows_in, first_graph, Seated, FirstStands}
 use Rattle.row_flight.specs.Rows.{flight_row}
-use Rattle.sp_model.specs.Hydration.{hydrated_by}
-use Rattle.sp_model.specs.RowOf.{columns_named, row_of}
 use Rattle.scan_laws.specs.Scans.{items_of}
 use Rattle.scan_laws.specs.States.{FlightRow, Scan}
 use Rattle.scan_core.specs.Advances.{row_now}

@@ -1,5 +1,5 @@
 -- A piece of a call as a step of the scan's state.
-use Rattle.std.proofs.Common.{◌≡◌, ◌≤◌, ◌<◌, ◌+◌, ◌-◌, ◌==◌, ◌||◌, not, nat_lt, ℕ, zero, suc, Bool, true, false, List, [], ◌∷◌, ◌++◌, length, take, drop, Option, Some, None, is_some, if◌then◌else◌, refl, sym, ap, subst, ◌∙◌, arith, append_assoc, inl, inr, add-zero}
+use Rattle.std.proofs.Common.{◌≡◌, ◌≤◌, ◌<◌, ◌+◌, ◌-◌, ◌==◌, ◌||◌, not, nat_lt, ℕ, Bool, true, false, List, [], ◌∷◌, ◌++◌, length, take, drop, Option, Some, None, is_some, if◌then◌else◌, refl, sym, ap, subst, ◌∙◌, arith, append_assoc, inl, inr, add-zero}
 use Rattle.std.proofs.lemmas.List.{take-append-le, length-append, length-drop, append-nil}
 use Rattle.std.proofs.lemmas.Bool.Decides.{nat_tests}
 use Rattle.std.proofs.lemmas.List.{drop-append-le}
@@ -13,8 +13,7 @@ use Rattle.sp_world.specs.Pieces.{IsSoundPiece}
 use Rattle.row_stream.specs.Streams.{Stream, restarted, fed, is_out, place_of}
 use Rattle.row_flight.specs.Flying.{rows_of, IsOf}
 use Rattle.scan_laws.specs.Scans.{items_of}
-use Rattle.scan_laws.specs.States.{Scan, Inner}
-use Rattle.scan_laws.specs.Steps.{item_came, ending_came, parent_came}
+use Rattle.scan_laws.specs.Steps.{item_came, parent_came}
 use Rattle.scan_core.specs.Calls.{source_of, entry_view, inner_of, inner_view, outer_of, outer_view}
 use Rattle.scan_core.specs.Courses.{end_view, undecided, state_of, table_of, IsCourse, IsItemsCall, IsParentsCall, IsOpenCall}
 use Rattle.scan_core.specs.Hearing.{anew, open_heard, items_heard, handed_on, MayBeginAnew, inner_heard, InnerTakes, outer_heard, OuterTakes}

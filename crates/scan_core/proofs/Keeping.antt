@@ -1,5 +1,5 @@
 -- Each step of a scan keeps it in agreement with any answers.
-use Rattle.std.proofs.Common.{◌≡◌, ℕ, suc, ◌+◌, Bool, true, false, ◌&&◌, List, [], ◌∷◌, ◌++◌, length, Option, Some, None, refl, sym, ap, subst, ◌∙◌, append_assoc, nat_lt, add-zero, ◌≤◌, ◌-◌, drop, arith, if◌then◌else◌}
+use Rattle.std.proofs.Common.{◌≡◌, ℕ, ◌+◌, Bool, true, false, ◌&&◌, List, [], ◌∷◌, ◌++◌, length, Option, Some, None, refl, sym, ap, subst, ◌∙◌, append_assoc, nat_lt, add-zero, ◌≤◌, ◌-◌, drop, arith, if◌then◌else◌}
 use Rattle.std.proofs.lemmas.Bool.Decides.{nat_tests}
 use Rattle.std.proofs.lemmas.List.{append-nil, length-append, length-drop}
 use Rattle.std.specs.List.{slice_get}
@@ -9,7 +9,7 @@ use Rattle.sp_model.specs.declared.call.Piece.TheVariants as piece
 use Rattle.row_flight.specs.Hearing.{IsPieceOfSeen}
 use Rattle.scan_core.specs.Hearing.{inner_heard, InnerTakes, outer_heard, OuterTakes}
 use Rattle.sp_value.specs.declared.cell.Cell.{Cell}
-use Rattle.sp_model.specs.RowOf.{columns_named, row_of}
+use Rattle.sp_model.specs.RowOf.{columns_named}
 use Rattle.sp_model.specs.Settling.{Answers, Verdict, Accept, Again, Refuse, Open, judged}
 use Rattle.sp_model.specs.Walk.{with_row, parent_source, parent_of}
 use Rattle.sp_model.specs.declared.call.Ending.{Ending}
@@ -23,8 +23,8 @@ use Rattle.scan_laws.specs.Flights.{AreApart}
 use Rattle.scan_laws.specs.Reaching.{Made}
 use Rattle.scan_laws.specs.Scans.{HasCome, InnerCame, OuterCame, Agrees, HasListed, Keeps}
 use Rattle.scan_laws.specs.States.{Outer, Inner, FlightRow, Scan}
-use Rattle.scan_laws.specs.Steps.{item_came, ending_came, parent_came, in_flight, past, ended_so, inner_accepted, inner_again, child_begun, outer_accepted, outer_again, finished}
-use Rattle.scan_core.specs.Advances.{row_now, StandsBy, Decides, Fills, AllDecided, is_too_many, InnerStands, InnerEnds, ChildBegins, OuterStands, OuterEnds, Finishes, Step, RowDecides, ItemFills, CallEnds, ListBegins, ParentsEnd, NothingIsLeft, Runs, Advances}
+use Rattle.scan_laws.specs.Steps.{item_came, parent_came, past, ended_so, inner_accepted, inner_again, outer_accepted, outer_again}
+use Rattle.scan_core.specs.Advances.{row_now, StandsBy, is_too_many, InnerStands, OuterStands, Step, RowDecides, ItemFills, CallEnds, ListBegins, ParentsEnd, NothingIsLeft, Runs, Advances}
 
 -- a state that is known by an equation
 at : (table : TableDecl) (request : ScanRequest) (answers : Answers) (st u t : Scan) → t ≡ u → Keeps table request answers st u [] → Keeps table request answers st t []

@@ -6,3 +6,4 @@ pub mod Moving
 pub mod Ending
 pub mod Weighing
 pub mod Heard
+pub mod Listed

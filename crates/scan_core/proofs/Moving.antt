@@ -1,5 +1,5 @@
 -- Steps of a scan's fields as steps of its state.
-use Rattle.std.proofs.Common.{◌≡◌, ◌+◌, ◌≤◌, ◌<◌, ℕ, zero, suc, Bool, true, false, List, [], ◌∷◌, ◌++◌, length, take, drop, map, get_or, replicate, Option, Some, None, unwrap_or, refl, sym, ap, subst, ◌∙◌, arith, append_assoc, if◌then◌else◌}
+use Rattle.std.proofs.Common.{◌≡◌, ◌+◌, ◌≤◌, ◌<◌, ℕ, zero, suc, Bool, true, false, List, [], ◌∷◌, ◌++◌, length, take, drop, get_or, replicate, Option, Some, None, unwrap_or, refl, sym, ap, subst, ◌∙◌, arith, append_assoc, if◌then◌else◌}
 use Rattle.std.proofs.lemmas.List.{map-append, take-append-le, length-append, length-map}
 use Rattle.std.proofs.Math.Seq.{take-length}
 use Rattle.sp_value.specs.declared.cell.Cell.{Cell}
@@ -16,17 +16,15 @@ use Rattle.hydrate_graph.specs.Numbers.{number_of}
 use Rattle.row_flight.specs.Attempts.{fresh}
 use Rattle.row_flight.specs.Flying.{InFlight, Seated, rows_of, rows_in, Puts, IsOf}
 use Rattle.row_flight.specs.Rows.{flight_row, begun, attempt_in, slot_of}
-use Rattle.row_flight.specs.declared.attempt.Attempt.{Attempt}
 use Rattle.scan_laws.specs.Rests.{entry_of}
 use Rattle.scan_laws.specs.Scans.{items_of}
-use Rattle.scan_laws.specs.States.{FlightRow, Scan, Inner}
-use Rattle.scan_laws.specs.Steps.{fresh_row, in_flight, past, first_past, inside_past, inner_past, inner_next, ended_so}
-use Rattle.scan_core.specs.Calls.{source_of, entry_view, inner_of, inner_view, outer_view, passed, passed_front, passed_items}
-use Rattle.scan_core.specs.Courses.{end_view, undecided, state_of, table_of, IsCourse, IsItemsCall, IsParentsCall, end_if, entry_now, went_on, Grows}
+use Rattle.scan_laws.specs.States.{FlightRow, Scan}
+use Rattle.scan_laws.specs.Steps.{fresh_row, in_flight, past, first_past, inside_past, inner_past, ended_so}
+use Rattle.scan_core.specs.Calls.{source_of, entry_view, inner_view, outer_view, passed, passed_front, passed_items}
+use Rattle.scan_core.specs.Courses.{end_view, undecided, state_of, table_of, IsCourse, IsItemsCall, end_if, entry_now, went_on, Grows}
 use Rattle.scan_core.specs.Advances.{StandsBy}
 use Rattle.scan_core.specs.declared.calls.Entry.{Entry}
 use Rattle.scan_core.specs.declared.calls.ItemsCall.{ItemsCall}
-use Rattle.scan_core.specs.declared.calls.ParentsCall.{ParentsCall}
 use Rattle.sp_model.specs.declared.outcome.Walk.TheVariants.{Failed as FailedAt}
 use Rattle.sp_model.specs.declared.scan.Cause.{Cause}
 use Rattle.scan_core.specs.declared.course.CourseEnd.TheVariants.{Failed}

@@ -1,7 +1,5 @@
 -- Which step of a scan is the next.
-use Rattle.std.proofs.Common.{◌≡◌, ℕ, suc, ◌+◌, ◌≤◌, Bool, true, false, ◌&&◌, List, [], ◌∷◌, ◌++◌, length, take, drop, Option, Some, None, refl, sym, ap, subst, ◌∙◌, nat_lt, arith, map, if◌then◌else◌}
-use Rattle.std.proofs.lemmas.List.{append-nil}
-use Rattle.sp_value.specs.declared.cell.Cell.{Cell}
+use Rattle.std.proofs.Common.{◌≡◌, ℕ, Bool, true, false, List, [], ◌∷◌, length, Some, None, refl, sym, ap, subst, ◌∙◌, if◌then◌else◌}
 use Rattle.sp_model.specs.Settling.{Verdict, Accept, Again, Refuse, Open, judged, is_ignored, is_retried}
 use Rattle.sp_model.specs.declared.call.Ending.{Ending}
 use Rattle.sp_model.specs.declared.call.Ending.TheVariants.{End, Error}
@@ -10,10 +8,10 @@ use Rattle.sp_model.specs.declared.declaration.TableDecl.{TableDecl}
 use Rattle.sp_model.specs.declared.scan.ScanRequest.{ScanRequest}
 use Rattle.retry_ignore.specs.Verdicts.{verdict_of}
 use Rattle.retry_ignore.specs.declared.verdict.Verdict.TheVariants.{Fail}
-use Rattle.scan_laws.specs.States.{Outer, Inner, FlightRow, Scan}
+use Rattle.scan_laws.specs.States.{Outer, Inner, Scan}
 use Rattle.sp_model.specs.Walk.{Source}
-use Rattle.scan_core.specs.Advances.{AllDecided, is_too_many, InnerStands, InnerEnds, OuterStands, OuterEnds, Finishes, Step, RowDecides, ItemFills, CallEnds, ListBegins, ParentsEnd, NothingIsLeft}
-use Rattle.scan_core.specs.Next.{FirstIsDecided, HasItem, InnerSays, HasParent, OuterSays, outer_source, IsStill, NoItemsStep, NoParentsStep, IsItemsNext, IsParentsNext, IsNext}
+use Rattle.scan_core.specs.Advances.{AllDecided, is_too_many, InnerStands, OuterStands, OuterEnds, Finishes, RowDecides, ItemFills, CallEnds, ListBegins, ParentsEnd, NothingIsLeft}
+use Rattle.scan_core.specs.Next.{FirstIsDecided, HasItem, HasParent, outer_source, IsStill, NoItemsStep, NoParentsStep, IsItemsNext, IsParentsNext, IsNext}
 use Rattle.scan_core.specs.declared.step.NextStep.{NextStep}
 use Rattle.scan_core.specs.declared.step.NextStep.TheVariants.{Decide, Fill, AcceptItems, AskItems, RefuseItems, TooManyItems, BeginList, AcceptParents, AskParents, RefuseParents, Finish, Wait}
 

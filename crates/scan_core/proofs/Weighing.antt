@@ -1,10 +1,9 @@
 -- Each step leaves less to do.
-use Rattle.std.proofs.Common.{◌≡◌, ◌<◌, ◌+◌, ◌*◌, ℕ, suc, Bool, true, false, List, [], ◌∷◌, ◌++◌, length, Option, Some, None, refl, sym, ap, subst, ◌∙◌, arith}
+use Rattle.std.proofs.Common.{◌≡◌, ◌<◌, ◌+◌, ◌*◌, ℕ, suc, Bool, true, false, List, [], ◌∷◌, ◌++◌, length, Option, Some, None, refl, sym, ap, subst, arith}
 use Rattle.std.proofs.lemmas.List.{length-append}
 use Rattle.sp_value.specs.declared.cell.Cell.{Cell}
-use Rattle.sp_model.specs.RowOf.{columns_named}
-use Rattle.sp_model.specs.Settling.{Verdict, Accept, Again, Refuse, Open, judged}
-use Rattle.sp_model.specs.Walk.{with_row, Source}
+use Rattle.sp_model.specs.Settling.{Verdict, Accept, Again, Refuse, Open}
+use Rattle.sp_model.specs.Walk.{Source}
 use Rattle.sp_model.specs.declared.call.Ending.{Ending}
 use Rattle.sp_model.specs.declared.declaration.TableDecl.{TableDecl}
 use Rattle.sp_model.specs.declared.outcome.Walk.{Walk}
@@ -13,8 +12,8 @@ use Rattle.sp_model.specs.declared.outcome.WalkState.{WalkState}
 use Rattle.sp_model.specs.declared.scan.ScanRequest.{ScanRequest}
 use Rattle.sp_model.specs.declared.scan.Cause.TheVariants.{Error, TooMany}
 use Rattle.scan_laws.specs.States.{Outer, Inner, FlightRow, Scan}
-use Rattle.scan_laws.specs.Steps.{fresh_row, in_flight, past, inner_past, ended_so, inner_accepted, inner_again, child_begun, outer_accepted, outer_again, finished}
-use Rattle.scan_core.specs.Advances.{StandsBy, is_too_many, InnerStands, OuterStands, Step, RowDecides, ItemFills, CallEnds, ListBegins, ParentsEnd, NothingIsLeft}
+use Rattle.scan_laws.specs.Steps.{fresh_row, in_flight, past, inner_past, ended_so, inner_accepted, inner_again, child_begun, outer_accepted, outer_again}
+use Rattle.scan_core.specs.Advances.{StandsBy, InnerStands, OuterStands, Step, RowDecides, ItemFills, CallEnds, ListBegins, ParentsEnd, NothingIsLeft}
 use Rattle.scan_core.specs.Next.{outer_source}
 use Rattle.scan_core.specs.Weights.{one_if_some, inner_weight, outer_weight, end_weight, weight}
 

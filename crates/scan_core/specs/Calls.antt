@@ -1,6 +1,5 @@
 -- The calls of a scan as the laws see them.
-use Rattle.std.specs.Prelude.{◌≡◌, ℕ, zero, suc, ◌+◌, ◌-◌, ◌^◌, min, false, List, [], take, Option, Some, None, unwrap_or}
-use Rattle.sp_value.specs.declared.cell.Cell.{Cell}
+use Rattle.std.specs.Prelude.{ℕ, zero, suc, ◌+◌, ◌-◌, ◌^◌, min, false, take, Option, Some, None, unwrap_or}
 use Rattle.sp_model.specs.Walk.{Source, list_source, get_source}
 use Rattle.sp_model.specs.declared.call.CallKey.{CallKey}
 use Rattle.sp_model.specs.declared.declaration.TableDecl.{TableDecl}

@@ -1,9 +1,8 @@
 -- The fields of a scan as the state that the laws speak of.
-use Rattle.std.specs.Prelude.{◌≡◌, ◌≤◌, ◌<◌, ◌^◌, ◌+◌, ℕ, Bool, true, false, List, [], ◌∷◌, ◌++◌, length, take, drop, Option, Some, None}
+use Rattle.std.specs.Prelude.{◌≡◌, ◌≤◌, ◌+◌, ℕ, Bool, true, false, List, [], ◌++◌, length, take, drop, Option, Some, None}
 use Rattle.std.specs.Arc.{arc_value}
 use Rattle.sp_value.specs.declared.cell.Cell.{Cell}
 use Rattle.sp_model.specs.Walk.{parent_source, parent_of}
-use Rattle.sp_model.specs.declared.call.Call.{Call}
 use Rattle.sp_model.specs.declared.call.Call.TheVariants as calls
 use Rattle.sp_model.specs.declared.call.CallKey.{CallKey}
 use Rattle.sp_model.specs.declared.declaration.TableDecl.{TableDecl}
@@ -11,9 +10,7 @@ use Rattle.sp_model.specs.declared.outcome.Walk.{Walk}
 use Rattle.sp_model.specs.declared.outcome.Walk.TheVariants.{Going, Full, Failed as FailedAt}
 use Rattle.sp_model.specs.declared.outcome.WalkState.{WalkState}
 use Rattle.sp_model.specs.declared.scan.Access.TheVariants as access
-use Rattle.sp_model.specs.declared.scan.ScanRequest.{ScanRequest}
 use Rattle.row_flight.specs.Flying.{rows_of, IsOf}
-use Rattle.row_stream.specs.Streams.{Stream}
 use Rattle.scan_laws.specs.Scans.{items_of}
 use Rattle.scan_laws.specs.States.{Scan}
 use Rattle.scan_core.specs.Calls.{source_of, items_source, inner_view, outer_view}

@@ -1,5 +1,5 @@
 -- What a piece of a call's reply makes of a scan.
-use Rattle.std.specs.Prelude.{◌≡◌, ◌⊎◌, ◌≤◌, ℕ, ◌+◌, ◌==◌, Bool, true, false, nat_lt, List, [], length, Option, Some, None, if◌then◌else◌}
+use Rattle.std.specs.Prelude.{◌≡◌, ◌⊎◌, ◌≤◌, ℕ, ◌+◌, ◌==◌, true, nat_lt, List, [], length, None, if◌then◌else◌}
 use Rattle.sp_value.specs.declared.cell.Cell.{Cell}
 use Rattle.sp_model.specs.declared.call.Piece.{Piece}
 use Rattle.sp_model.specs.declared.call.Piece.TheVariants as piece

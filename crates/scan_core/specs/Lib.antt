@@ -5,3 +5,4 @@ pub mod Next
 pub mod Weights
 pub mod Hearing
 pub mod Laws
+pub mod Listing

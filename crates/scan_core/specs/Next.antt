@@ -1,7 +1,6 @@
 -- Which step of a scan is the next.
-use Rattle.std.specs.Prelude.{◌≡◌, ◌<◌, ℕ, Bool, true, false, List, [], ◌∷◌, length, Option, Some, None}
+use Rattle.std.specs.Prelude.{◌≡◌, ◌<◌, ℕ, Bool, true, false, List, [], ◌∷◌, length, Some, None}
 use Rattle.sp_value.specs.declared.cell.Cell.{Cell}
-use Rattle.sp_model.specs.Delays.{delay_by}
 use Rattle.sp_model.specs.Settling.{Verdict, Accept, Again, Refuse, judged}
 use Rattle.sp_model.specs.Walk.{Source, parent_source, parent_of}
 use Rattle.sp_model.specs.declared.call.Ending.{Ending}

@@ -1,6 +1,5 @@
 -- How much is left of a scan to do with what came so far: it gets less with each step.
 use Rattle.std.specs.Prelude.{ℕ, ◌+◌, ◌*◌, length, Option, Some, None}
-use Rattle.sp_model.specs.declared.call.Ending.{Ending}
 use Rattle.sp_model.specs.declared.outcome.Walk.{Walk}
 use Rattle.scan_laws.specs.States.{Outer, Inner, Scan}
 

@@ -6,17 +6,20 @@
 #![tactic(auto)]
 
 mod advance;
+mod beginning;
 mod calls;
 mod course;
 mod deciding;
 mod hearing;
 mod laws;
+mod listing;
 mod lists;
 mod meeting;
 mod moves;
 mod next;
 mod refusing;
 mod scope;
+mod sources;
 mod step;
 mod verdicts;
 

@@ -59,6 +59,26 @@ impl ListParts {
     }
 }
 
+impl ListParts {
+    /// The first attempt of the get by these conditions.
+    pub(crate) fn get_key(self) -> CallKey
+        ensures { result ≡ record { connection = self.connection; version = self.version; call = calls.Get self.table self.conditions; attempt = 1 } }
+    {
+        let ListParts {
+            connection,
+            version,
+            table,
+            conditions,
+        } = self;
+        CallKey {
+            connection,
+            version,
+            call: Call::Get { table, conditions },
+            attempt: 1,
+        }
+    }
+}
+
 impl<W: World> Course<W> {
     /// The list of the next parent begins.
     pub(crate) fn begin_list(&mut self, alloc: Global, scope: &ScanScope) -> Result<(), Memory>

@@ -1,4 +1,4 @@
-use Rattle.std.proofs.Common.{◌≡◌, inr, ap}
+use Rattle.std.proofs.Common.{inr, ap}
 use Rattle.scan_core.proofs.calls.OpenCall.hear.Goals as goal
 
 pub returns-in-Err-Memory-clause-memory : goal.returns-in-Err-Memory-clause-memory

@@ -1,4 +1,4 @@
-use Rattle.std.proofs.Common.{◌≡◌, ap, subst, None}
+use Rattle.std.proofs.Common.{ap, subst}
 use Rattle.scan_core.proofs.Ending.{none_of}
 use Rattle.scan_core.proofs.Keeping.{advances_more}
 use Rattle.scan_core.proofs.Weighing.{step_less}

@@ -1,6 +1,6 @@
 use Rattle.std.proofs.Common.{refl, sym, ◌∙◌}
 use Rattle.scan_core.proofs.Fronts.{first_decided, first_waits, no_first}
-use Rattle.scan_core.specs.Courses.{state_of, table_of}
+use Rattle.scan_core.specs.Courses.{table_of}
 use Rattle.scan_core.proofs.course.Course.first_is_decided.Goals as goal
 
 pub returns-in-Some-clause-yes : goal.returns-in-Some-clause-yes

@@ -1,6 +1,5 @@
-use Rattle.std.proofs.Common.{◌≡◌, refl, sym, ◌∙◌, ap, Some, None, Option}
+use Rattle.std.proofs.Common.{◌≡◌, refl, sym, ◌∙◌, ap, Some, None}
 use Rattle.std.specs.List.{slice_get}
-use Rattle.sp_model.specs.declared.declaration.ColumnDecl.{ColumnDecl}
 use Rattle.sp_model.specs.declared.outcome.Row.TheVariants.{Broken}
 use Rattle.scan_core.proofs.Fronts.{first_row, first_waits, fails_at}
 use Rattle.scan_core.specs.Courses.{table_of}

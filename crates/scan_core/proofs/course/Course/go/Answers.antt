@@ -1,4 +1,4 @@
-use Rattle.std.proofs.Common.{◌≡◌, ap, refl, subst, true, false, None, Some}
+use Rattle.std.proofs.Common.{ap, subst, false}
 use Rattle.sp_model.specs.Settling.{Accept, Again}
 use Rattle.scan_core.proofs.Ending.{ends_says, outer_ends, outer_says, none_left, none_closed, no_items, ok_map, err_map}
 use Rattle.scan_core.specs.Advances.{RowDecides, ItemFills, CallEnds, ListBegins, ParentsEnd, NothingIsLeft}

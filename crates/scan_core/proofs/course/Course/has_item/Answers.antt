@@ -1,4 +1,4 @@
-use Rattle.std.proofs.Common.{◌<◌, ◌≤◌, length, arith, ◌≡◌, ap, subst, sym, ◌∙◌}
+use Rattle.std.proofs.Common.{◌<◌, length, arith}
 use Rattle.std.proofs.lemmas.Bool.Decides.{nat_tests}
 use Rattle.scan_core.proofs.Fronts.{has_item, rows_length}
 use Rattle.scan_core.proofs.course.Course.has_item.Goals as goal

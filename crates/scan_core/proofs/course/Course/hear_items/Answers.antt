@@ -1,4 +1,4 @@
-use Rattle.std.proofs.Common.{◌≡◌, Some, refl, ap, inl}
+use Rattle.std.proofs.Common.{Some, refl, ap, inl}
 use Rattle.scan_core.proofs.Heard.{heard_state, heard_takes, used_form, kept_so}
 use Rattle.scan_core.specs.Calls.{inner_of, inner_view}
 use Rattle.scan_core.proofs.course.Course.hear_items.Goals as goal

@@ -1,4 +1,4 @@
-use Rattle.std.proofs.Common.{◌≡◌, Some, ap, inl}
+use Rattle.std.proofs.Common.{ap, inl}
 use Rattle.scan_core.proofs.Heard.{outer_state, outer_takes, outer_form, outer_kept, with_parents}
 use Rattle.scan_core.specs.Calls.{outer_of, outer_view}
 use Rattle.scan_core.proofs.course.Course.hear_parents.Goals as goal

@@ -1,4 +1,4 @@
-use Rattle.std.proofs.Common.{◌≡◌, length, arith, refl, sym, ap, ◌∙◌, Some}
+use Rattle.std.proofs.Common.{◌≡◌, length, arith, sym, ap, ◌∙◌, Some}
 use Rattle.sp_model.specs.Settling.{judged}
 use Rattle.scan_core.proofs.Fronts.{all_decided}
 use Rattle.scan_core.proofs.Nexting.{says_refuse}

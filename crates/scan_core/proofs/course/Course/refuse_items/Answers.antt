@@ -1,4 +1,4 @@
-use Rattle.std.proofs.Common.{◌≡◌, ap, sym, ◌∙◌, refl, Some, None, suc}
+use Rattle.std.proofs.Common.{ap, ◌∙◌, None, suc}
 use Rattle.sp_model.specs.Settling.{Refuse}
 use Rattle.sp_model.specs.declared.outcome.Walk.TheVariants.{Failed}
 use Rattle.scan_laws.specs.Steps.{ended_so}

@@ -1,4 +1,4 @@
-use Rattle.std.proofs.Common.{◌≡◌, ap, sym, ◌∙◌, refl, Some, None, suc, true}
+use Rattle.std.proofs.Common.{ap, ◌∙◌, None, suc, true}
 use Rattle.sp_model.specs.Settling.{Accept}
 use Rattle.sp_model.specs.declared.outcome.Walk.TheVariants.{Failed}
 use Rattle.sp_model.specs.declared.scan.Cause.TheVariants.{TooMany}

@@ -1,4 +1,4 @@
-use Rattle.std.proofs.Common.{◌≡◌, ap, sym, ◌∙◌, refl, Some, None, suc}
+use Rattle.std.proofs.Common.{ap, ◌∙◌, Some, None, suc}
 use Rattle.sp_model.specs.Settling.{Refuse, judged}
 use Rattle.sp_model.specs.declared.outcome.Walk.TheVariants.{Failed}
 use Rattle.sp_model.specs.declared.scan.Cause.TheVariants.{Error}

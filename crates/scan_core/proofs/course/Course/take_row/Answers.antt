@@ -1,11 +1,11 @@
-use Rattle.std.proofs.Common.{◌≡◌, ◌<◌, ℕ, length, refl, sym, ◌∙◌, ap, subst, Some, arith, List}
+use Rattle.std.proofs.Common.{ℕ, sym, ◌∙◌, ap, subst, Some, List}
 use Rattle.sp_model.specs.Walk.{with_row}
 use Rattle.sp_model.specs.declared.declaration.ColumnDecl.{ColumnDecl}
 use Rattle.sp_model.specs.declared.outcome.Row.TheVariants.{Whole}
 use Rattle.sp_model.specs.declared.outcome.WalkState.{WalkState}
 use Rattle.scan_core.proofs.Moving.{past_state, past_form, rest_rows, rest_of, rest_room, stands_so}
 use Rattle.scan_core.specs.Calls.{passed_items}
-use Rattle.scan_core.specs.Courses.{state_of, entry_now, went_on, end_view, Grows}
+use Rattle.scan_core.specs.Courses.{state_of, went_on, end_view, Grows}
 use Rattle.scan_laws.specs.Steps.{past}
 use Rattle.scan_core.proofs.course.Course.take_row.Goals as goal
 

@@ -1,4 +1,4 @@
-use Rattle.std.proofs.Common.{◌+◌, ap, sym, ◌∙◌, arith}
+use Rattle.std.proofs.Common.{arith}
 use Rattle.scan_core.proofs.Fronts.{undecided_length}
 use Rattle.scan_core.proofs.course.Course.undecided_len.Goals as goal
 
