@@ -1,3 +1,4 @@
 pub mod Granting
+pub mod Owning
 pub mod Slots
 pub mod Stills

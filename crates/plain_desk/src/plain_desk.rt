@@ -1,4 +1,4 @@
-ghost use Rattle.std.specs.Prelude.{◌≡◌, ◌<◌, [], OnOk, vec_len, vec_capacity};
+ghost use Rattle.std.specs.Prelude.{◌≡◌, ◌<◌, [], length, map, OnOk, vec_len, vec_capacity};
 ghost use Rattle.call_jobs.specs.Jobs.{asked_by, function_by};
 ghost use Rattle.sp_world.specs.RequestLines.{IsAskedForm};
 
@@ -15,7 +15,8 @@ use sp_world::{Kept, World};
 use std::alloc::Global;
 use std::sync::Arc;
 
-/// A desk over one slot for each plain connection of the settings, in their order. It keeps no scan.
+/// A desk over one slot for each plain connection of the settings, in their order. It keeps no scan. All that it tells of its steps is that
+/// the slots keep their connections.
 pub struct PlainDesk<'a, W: World, C: Child<W>, K: Clock> {
     alloc: Global,
     settings: Settings,
@@ -43,22 +44,38 @@ fn plain_place(connections: &[Connection], name: &Text) -> Option<usize> {
     None
 }
 
+/// Has a job wait at a place.
+fn wait_at<W: World, C: Child<W>>(
+    alloc: Global,
+    slots: &mut Vec<Slot<W, C>>,
+    at: usize,
+    job: Job,
+) -> Result<(), Job>
+    requires within { at < length slots.old.items }
+    requires form { IsAskedForm (function_by job) (asked_by job) }
+    ensures own { map (λ s. C.connection s.link.child) slots.new.items ≡ map (λ s. C.connection s.link.child) slots.old.items }
+{
+    let slot = &mut slots[at];
+    slot.submit(alloc, job)
+}
+
 /// Hands a job to the slot at a place, or has the session be told that its child is gone.
 fn submit_at<W: World, C: Child<W>>(
     alloc: Global,
-    slots: &mut [Slot<W, C>],
+    slots: &mut Vec<Slot<W, C>>,
     gone: &[(u32, u32)],
     posts: &mut Posts<W>,
     place: usize,
     job: Job,
 ) -> Result<(), Job>
     requires { IsAskedForm (function_by job) (asked_by job) }
+    ensures own { map (λ s. C.connection s.link.child) slots.new.items ≡ map (λ s. C.connection s.link.child) slots.old.items }
 {
-    let Some(slot) = slots.get_mut(place) else {
+    if place >= slots.len() {
         return Err(job);
-    };
-    if !slot.is_gone() {
-        return slot.submit(alloc, job);
+    }
+    if !slots[place].is_gone() {
+        return wait_at(alloc, slots, place, job);
     }
     match u32::try_from(place) {
         Ok(number) => post_gone(posts, gone, number, job),
@@ -132,9 +149,11 @@ impl<'a, W: World, C: Child<W>, K: Clock> PlainDesk<'a, W, C, K> {
 }
 
 impl<'a, W: World, C: Child<W>, K: Clock> Desk<W> for PlainDesk<'a, W, C, K> {
+    ghost use Rattle.std.specs.Prelude.{◌≡◌, map};
+
     ghost state = { λ d. record { settings = d.settings; tick = d.clock.tick; scans = d.scans; gone = d.gone.items } };
 
-    ghost does = { λ _ _ _. Unit {0} };
+    ghost does = { λ old _ new. map (λ s. C.connection s.link.child) new.slots.items ≡ map (λ s. C.connection s.link.child) old.slots.items };
 
     fn now(&mut self) -> u64 {
         self.clock.read()
@@ -155,7 +174,7 @@ impl<'a, W: World, C: Child<W>, K: Clock> Desk<W> for PlainDesk<'a, W, C, K> {
         self.turn = place;
         submit_at(
             self.alloc,
-            self.slots.as_mut_slice(),
+            &mut self.slots,
             &self.gone,
             &mut self.posts,
             place,
@@ -172,7 +191,7 @@ impl<'a, W: World, C: Child<W>, K: Clock> Desk<W> for PlainDesk<'a, W, C, K> {
             return Driven::Memory;
         };
         let tick = self.clock.present();
-        match run_slots(self.alloc, self.slots.as_mut_slice(), self.turn, tick) {
+        match run_slots(self.alloc, &mut self.slots, self.turn, tick) {
             Ran::Told { seat, told } => {
                 self.posts.pieces.push_reserved(Post { seat, told });
                 Driven::Moved
@@ -205,6 +224,6 @@ impl<'a, W: World, C: Child<W>, K: Clock> Desk<W> for PlainDesk<'a, W, C, K> {
     fn clear(&mut self) {}
 
     fn end_statement(&mut self) {
-        forget_all(self.slots.as_mut_slice());
+        forget_all(&mut self.slots);
     }
 }

@@ -1,4 +1,4 @@
-ghost use Rattle.std.specs.Prelude.{◌≡◌, ◌≤◌, ◌<◌, ◌^◌, length};
+ghost use Rattle.std.specs.Prelude.{◌≡◌, ◌≤◌, ◌<◌, ◌^◌, length, map};
 
 use crate::slot::Slot;
 use crate::stepping::Stepped;
@@ -20,15 +20,17 @@ pub(crate) enum Ran<W: World> {
 /// Has the slot at a place do what it can, if anything.
 fn step_at<W: World, C: Child<W>>(
     alloc: Global,
-    slots: &mut [Slot<W, C>],
+    slots: &mut Vec<Slot<W, C>>,
     at: usize,
     tick: u64,
 ) -> Option<Ran<W>>
-    requires within { at < length slots.old }
+    requires within { at < length slots.old.items }
     requires small { tick ≤ 2 ^ 62 }
-    ensures len { length slots.new ≡ length slots.old }
+    ensures len { length slots.new.items ≡ length slots.old.items }
+    ensures own { map (λ s. C.connection s.link.child) slots.new.items ≡ map (λ s. C.connection s.link.child) slots.old.items }
 {
-    match slots[at].step(alloc, tick) {
+    let slot = &mut slots[at];
+    match slot.step(alloc, tick) {
         Stepped::Told { seat, told } => Some(Ran::Told { seat, told }),
         Stepped::Lost => Some(Ran::Lost(at)),
         Stepped::Memory => Some(Ran::Memory),
@@ -56,12 +58,13 @@ fn sooner(one: Option<u64>, other: Option<u64>) -> Option<u64> {
 /// Has the first slot that can do something do it, and before all others the one at a place.
 pub(crate) fn run_slots<W: World, C: Child<W>>(
     alloc: Global,
-    slots: &mut [Slot<W, C>],
+    slots: &mut Vec<Slot<W, C>>,
     first: usize,
     tick: u64,
 ) -> Ran<W>
     requires { tick ≤ 2 ^ 62 }
-    ensures { length slots.new ≡ length slots.old }
+    ensures len { length slots.new.items ≡ length slots.old.items }
+    ensures own { map (λ s. C.connection s.link.child) slots.new.items ≡ map (λ s. C.connection s.link.child) slots.old.items }
 {
     if first < slots.len() {
         if let Some(ran) = step_at(alloc, slots, first, tick) {
@@ -76,9 +79,21 @@ pub(crate) fn run_slots<W: World, C: Child<W>>(
     Ran::Idle(least_due(slots))
 }
 
+/// Drops what waits at a place.
+fn forget_at<W: World, C: Child<W>>(slots: &mut Vec<Slot<W, C>>, at: usize)
+    requires { at < length slots.old.items }
+    ensures len { length slots.new.items ≡ length slots.old.items }
+    ensures own { map (λ s. C.connection s.link.child) slots.new.items ≡ map (λ s. C.connection s.link.child) slots.old.items }
+{
+    let slot = &mut slots[at];
+    slot.forget();
+}
+
 /// Drops what waits.
-pub(crate) fn forget_all<W: World, C: Child<W>>(slots: &mut [Slot<W, C>]) {
-    for slot in slots.iter_mut() {
-        slot.forget();
+pub(crate) fn forget_all<W: World, C: Child<W>>(slots: &mut Vec<Slot<W, C>>)
+    ensures own { map (λ s. C.connection s.link.child) slots.new.items ≡ map (λ s. C.connection s.link.child) slots.old.items }
+{
+    for at in 0..slots.len() {
+        forget_at(slots, at);
     }
 }

@@ -1,6 +1,5 @@
 -- How a course goes on by one more scan.
-use Rattle.std.proofs.Common.{◌≡◌, ℕ, zero, suc, List, [], ◌∷◌, ◌++◌, map, length, Option, Some, None, Result, Ok, Err, refl, sym, ap, inl, inr, ◌∙◌, subst, append-nil, append_assoc}
-use Rattle.std.proofs.lemmas.List.{map-append}
+use Rattle.std.proofs.Common.{◌≡◌, ℕ, zero, suc, List, [], ◌∷◌, ◌++◌, Option, Some, None, Result, Ok, Err, refl, sym, ap, inl, inr, ◌∙◌, subst, append-nil, append_assoc}
 use mathlib.Core.List.{IsPrefix}
 use Rattle.sp_value.specs.declared.cell.Cell.{Cell}
 use Rattle.sp_model.specs.Book.{Book}
@@ -11,8 +10,8 @@ use Rattle.sp_model.specs.declared.outcome.ScanValue.TheVariants.{Rows, Failed}
 use Rattle.sp_model.specs.declared.scan.ScanNote.{ScanNote}
 use Rattle.sp_model.specs.declared.scan.ScanRequest.{ScanRequest}
 use Rattle.sp_model.specs.Walk.{scan_value}
-use Rattle.statement_words.specs.Answered.{versions_of, requests_of_notes, IsAt, EndsAt, IsNoted, IsNeeding, IsStop, IsValued, IsScanned, GoesOn}
-use Rattle.statement_words.specs.Course.{Course, CourseEnd, Gives, FailsAt, Needs, Open, ends, prefixed, StatementSource, StatementPlan, with_value, scan_one, lowered, scan_next, less, scan_all, from_source, from_sources, course}
+use Rattle.statement_words.specs.Answered.{versions_of, requests_of_notes, IsAt, EndsAt, IsNoted, IsValued, IsScanned, GoesOn}
+use Rattle.statement_words.specs.Course.{Course, CourseEnd, Gives, FailsAt, Needs, ends, prefixed, StatementSource, StatementPlan, with_value, scan_one, lowered, scan_next, less, scan_all, from_source, from_sources, course}
 use Rattle.statement_words.specs.declared.stop.Stop.{Stop}
 use Rattle.statement_words.specs.declared.stop.Stop.TheVariants as stop
 

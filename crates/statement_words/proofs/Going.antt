@@ -1,13 +1,12 @@
 -- The laws of a statement's course.
-use Rattle.std.proofs.Common.{◌≡◌, ℕ, zero, suc, ◌-◌, List, [], ◌∷◌, ◌++◌, length, Option, Some, None, Result, Ok, Err, refl, sym, ap, ◌∙◌, arith}
+use Rattle.std.proofs.Common.{◌≡◌, ℕ, zero, suc, List, length, Option, Some, None, Result, Ok, Err, sym, ap, ◌∙◌}
 use Rattle.std.proofs.lemmas.List.{length-map}
 use Rattle.sp_value.specs.declared.cell.Cell.{Cell}
 use Rattle.sp_model.specs.declared.call.Version.{Version}
 use Rattle.sp_model.specs.declared.scan.Cause.{Cause}
 use Rattle.sp_model.specs.declared.scan.ScanNote.{ScanNote}
-use Rattle.sp_model.specs.declared.scan.ScanRequest.{ScanRequest}
-use Rattle.statement_words.specs.Answered.{versions_of, requests_of_notes, EndsAt, IsAnswer, IsDecided}
-use Rattle.statement_words.specs.Course.{Course, CourseEnd, Gives, FailsAt, from_source, scan_next}
+use Rattle.statement_words.specs.Answered.{versions_of, requests_of_notes, EndsAt}
+use Rattle.statement_words.specs.Course.{Course, CourseEnd, Gives, FailsAt}
 use Rattle.statement_words.specs.Laws.{SourceBegins, ScanGoesOn, SourceGoesOn, AnswersAgree, CourseBegins}
 use Rattle.statement_words.specs.declared.stop.Stop.{Stop}
 use Rattle.statement_words.specs.declared.stop.Stop.TheVariants as stop

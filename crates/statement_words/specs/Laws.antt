@@ -1,5 +1,5 @@
 -- Laws of a statement's course.
-use Rattle.std.specs.Prelude.{◌≡◌, ℕ, zero, suc, List, [], ◌∷◌, ◌++◌, Option, Some, None, Result, Ok, Err}
+use Rattle.std.specs.Prelude.{◌≡◌, ℕ, zero, suc, List, [], ◌∷◌, ◌++◌, Option, Some, None, Result}
 use Rattle.sp_value.specs.declared.cell.Cell.{Cell}
 use Rattle.sp_model.specs.Book.{Book}
 use Rattle.sp_model.specs.declared.call.Version.{Version}
@@ -7,7 +7,7 @@ use Rattle.sp_model.specs.declared.declaration.TableDecl.{TableDecl}
 use Rattle.sp_model.specs.declared.scan.ScanNote.{ScanNote}
 use Rattle.sp_model.specs.declared.scan.ScanRequest.{ScanRequest}
 use Rattle.statement_words.specs.Answered.{versions_of, requests_of_notes, IsAt, IsScanned, GoesOn, IsAnswer, IsDecided}
-use Rattle.statement_words.specs.Course.{Course, StatementPlan, StatementSource, course, from_source, from_sources, scan_all, scan_next, scan_one, lowered, less}
+use Rattle.statement_words.specs.Course.{Course, StatementPlan, StatementSource, course, from_sources, scan_all, scan_one, lowered, less}
 use Rattle.statement_words.specs.declared.stop.Stop.{Stop}
 
 abbrev pub CourseBegins : Type 0

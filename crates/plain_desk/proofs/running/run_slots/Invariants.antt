@@ -1,0 +1,8 @@
+use Rattle.std.proofs.Common.{◌≡◌, map, length}
+use Rattle.plain_desk.proofs.running.run_slots.Given as goal
+
+abbrev pub invariant-loop-at : goal.invariant-loop-at
+invariant-loop-at g l = record {
+  len : length l.slots.items ≡ length l.fn.slots.items;
+  own : map (λ s. g.C.Child.connection s.link.child) l.slots.items ≡ map (λ s. g.C.Child.connection s.link.child) l.fn.slots.items;
+}
