@@ -1,5 +1,5 @@
 -- What holds of an accepted table, and of a row that fails.
-use Rattle.std.proofs.Common.{◌≡◌, ℕ, ◌≤◌, Bool, true, false, cond, List, [], ◌∷◌, length, filter, Option, Some, refl, arith}
+use Rattle.std.proofs.Common.{◌≡◌, ℕ, ◌≤◌, Bool, true, false, cond, List, [], ◌∷◌, length, filter, Option, Some, refl, subst, arith}
 use Rattle.std.proofs.lemmas.Bool.{and_parts, and_from}
 use Rattle.std.specs.List.{list_all}
 use Rattle.sp_model.specs.Rests.{column_rests}
@@ -10,10 +10,14 @@ use Rattle.sp_model.specs.declared.outcome.Row.{Row}
 use Rattle.decl_words.specs.Limits.{table_fits}
 use Rattle.decl_words.specs.Sound.{IsSound}
 use Rattle.hydrate_graph.specs.Ends.{IsEndOf, IsBroken}
+use Rattle.hydrate_graph.specs.declared.ends.RowEnd.{RowEnd}
 use Rattle.hydrate_graph.specs.declared.ends.RowEnd.TheVariants as end
 
-pub broken : (columns : List ColumnDecl) (row : Option Row) (number : ℕ) → IsEndOf columns row (Some (end.Fails number)) → IsBroken row
-broken columns row number (why, (column, (at, is))) = (column.name, (why, is))
+broken_at : (columns : List ColumnDecl) (row : Option Row) (number : ℕ) → IsEndOf columns row (Some (end.Fails number)) → IsBroken row
+broken_at columns row number (why, (column, (at, is))) = (column.name, (why, is))
+
+pub broken : (columns : List ColumnDecl) (row : Option Row) (e : Option RowEnd) (number : ℕ) → e ≡ Some (end.Fails number) → IsEndOf columns row e → IsBroken row
+broken columns row e number is h = broken_at columns row number (subst (IsEndOf columns row) is h)
 
 pub few_functions : (t : TableDecl) → IsSound t → length t.functions ≤ 64
 few_functions t s = search (arith, s.limits)

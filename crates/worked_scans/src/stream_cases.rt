@@ -9,7 +9,7 @@ use crate::tables::spelled;
 use case_tables::{push_word, str_at, word};
 use row_stream::{FeedFault, ListStream};
 use sp_model::{Asked, Call, CallKey, Ending, Piece};
-use sp_value::Text;
+use sp_value::{Text, TryCopy};
 use sp_world::{Line, Told, Untold, read_line};
 use sqlite_items::Items;
 use std::alloc::Global;
@@ -39,8 +39,9 @@ fn list_call(alloc: Global) -> Option<CallKey> {
 /// Steps over the stream of a call: a number feeds the item of this place, `end N` the ending after N items; `again` restarts, and
 /// `next` takes an item.
 fn steps(alloc: Global, given: &[Vec<u8>]) -> Option<String> {
-    let asked = Arc::new(alloc, Asked::Call(list_call(alloc)?)).ok()?;
-    let mut stream: ListStream<Untold> = ListStream::begin(alloc, list_call(alloc)?);
+    let call = list_call(alloc)?;
+    let asked = Arc::new(alloc, Asked::Call(call.copy(alloc).ok()?)).ok()?;
+    let mut stream: ListStream<Untold> = ListStream::begin(alloc, call);
     let mut words = String::new(alloc);
     for text in str_at(given, 0)?.split(", ") {
         let came = step(alloc, &asked, &mut stream, text)?;
