@@ -7,3 +7,4 @@ pub mod Ending
 pub mod Weighing
 pub mod Heard
 pub mod Listed
+pub mod HeardRows

@@ -18,6 +18,7 @@ mod meeting;
 mod moves;
 mod next;
 mod refusing;
+mod rows;
 mod scope;
 mod sources;
 mod step;
