@@ -1,5 +1,5 @@
 -- Jobs that may be handed in.
-use Rattle.std.specs.Prelude.{◌≡◌, ℕ, ◌≤◌, ◌^◌, Bool, true, false, IsTrue, List, Contains, Option, None, Some}
+use Rattle.std.specs.Prelude.{◌≡◌, ◌≤◌, ◌^◌, Bool, true, false, IsTrue, List, Contains, Option, None, Some}
 use Rattle.sp_model.specs.Book.{Book}
 use Rattle.sp_model.specs.Calls.{is_lawful_by}
 use Rattle.sp_model.specs.declared.call.Asked.{Asked}

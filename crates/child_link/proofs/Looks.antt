@@ -1,6 +1,5 @@
 -- Lines that were looked at.
-use Rattle.std.proofs.Common.{◌≡◌, ℕ, ◌+◌, ◌-◌, ◌^◌, ◌≤◌, nat_lt, cond, Bool, true, false, List, Some, None, Result, Ok, Err, refl, arith}
-use Rattle.std.specs.Prelude.{min}
+use Rattle.std.proofs.Common.{◌≡◌, ℕ, ◌-◌, ◌^◌, ◌≤◌, nat_lt, cond, Bool, true, false, List, Some, None, Result, Ok, Err, refl, arith}
 use Rattle.std.proofs.lemmas.Bool.{ltb-true, ltb-false}
 use Rattle.sp_outside.specs.Causes.{up}
 use Rattle.sp_outside.specs.declared.log.Loss.TheVariants as loss

@@ -20,7 +20,6 @@ use Rattle.child_link.specs.Arrivals.{number_of, replied}
 use Rattle.child_link.specs.Open.{open_of, calls_of, next_in, book_next, ahead, IsNext}
 use Rattle.child_link.specs.Holds.{Holds, all_within}
 use Rattle.sp_world.specs.LineParts.{AreParts, IsReadBack}
-use Rattle.sp_world.specs.RequestLines.{IsAskedForm}
 use Rattle.child_link.specs.Reads.{Reads}
 use Rattle.child_link.specs.declared.flight.Flight.{Flight}
 

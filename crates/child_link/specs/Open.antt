@@ -1,5 +1,5 @@
 -- Open calls, and what a line answers to them.
-use Rattle.std.specs.Prelude.{◌≡◌, ℕ, ◌-◌, ◌^◌, ◌==◌, nat_lt, List, [], ◌∷◌, map, if◌then◌else◌, Option, Some, None, option_map, Result, Ok, Err}
+use Rattle.std.specs.Prelude.{◌≡◌, ℕ, ◌-◌, ◌^◌, nat_lt, List, map, if◌then◌else◌, Option, Some, None, option_map, Result, Ok, Err}
 use Rattle.call_jobs.specs.Jobs.{asked_by}
 use Rattle.call_jobs.specs.declared.job.Job.{Job}
 use Rattle.sp_model.specs.Book.{Book}

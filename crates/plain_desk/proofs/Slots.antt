@@ -1,5 +1,5 @@
 -- A slot keeps what it keeps.
-use Rattle.std.proofs.Common.{◌≡◌, ℕ, zero, suc, length, ◌<◌, ◌≤◌, ◌^◌, Bool, true, false, cond, List, [], ◌∷◌, ◌++◌, Option, Some, None, Result, Ok, refl, sym, ap, ◌∙◌, subst, arith}
+use Rattle.std.proofs.Common.{◌≡◌, ℕ, zero, suc, length, ◌<◌, ◌≤◌, ◌^◌, Bool, true, false, cond, List, [], ◌∷◌, ◌++◌, Option, Some, None, Result, Ok, sym, ap, ◌∙◌, subst, arith}
 use Rattle.std.specs.Prelude.{slice_get, slice_set, get_or, IfSome}
 use Rattle.std.specs.List.{AllByRecursion, remove}
 use Rattle.std.proofs.lemmas.Option.{slice_get-get_or}
@@ -19,10 +19,8 @@ use Rattle.child_link.specs.declared.arrival.Arrived.{Arrived}
 use Rattle.child_link.specs.declared.flight.Flight.{Flight}
 use Rattle.sp_world.specs.Fits.{is_last}
 use Rattle.child_link.specs.Arrivals.{shown}
-use Rattle.plain_desk.specs.Grants.{AreHeld}
-use Rattle.plain_desk.specs.Slots.{IsDue, Keeps, returned, Stands, is_running}
+use Rattle.plain_desk.specs.Slots.{IsDue, Keeps, returned}
 use Rattle.plain_desk.proofs.Granting.{held_more, held_removed, held_set, last_of_grant, last_of_return, all_removed, all_at}
-use Rattle.plain_desk.specs.declared.stage.Stage.{Stage}
 
 -- ---- due calls
 
