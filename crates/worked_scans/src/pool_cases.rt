@@ -1,6 +1,6 @@
 //! What comes of the calls of `row_pool`.
 
-ghost use Rattle.std.specs.Prelude.{◌≤◌, ◌<◌, ◌+◌, ◌^◌};
+ghost use Rattle.std.specs.Prelude.{◌≤◌, ◌+◌};
 
 use crate::tables::number_at;
 use case_tables::{push_word, str_at, word};
@@ -22,20 +22,27 @@ fn steps(alloc: Global, given: &[Vec<u8>]) -> Option<String> {
     let mut words = String::new(alloc);
     let mut count = 0u32;
     for text in str_at(given, 1)?.split(", ") {
-        let came = step(alloc, &mut pool, &mut keys, text)?;
+        let came = step(alloc, &mut pool, &mut keys, count, text)?;
         push_word(&mut words, ", ", came.as_str())?;
         count = count.checked_add(1)?;
     }
     Some(words)
 }
 
-fn step(alloc: Global, pool: &mut Pool<Text>, keys: &mut Vec<Key>, text: &str) -> Option<String>
-    requires { pool.old.drawn < 2 ^ 63 }
-    ensures { pool.new.drawn ≤ pool.old.drawn + 1 }
+/// A step, before which at most so many values were taken.
+fn step(
+    alloc: Global,
+    pool: &mut Pool<Text>,
+    keys: &mut Vec<Key>,
+    count: u32,
+    text: &str,
+) -> Option<String>
+    requires { pool.old.drawn ≤ count }
+    ensures { pool.new.drawn ≤ count + 1 }
 {
     let (name, more) = text.split_once(" ")?;
     match name {
-        "take" => take(alloc, pool, keys, more),
+        "take" => take(alloc, pool, keys, count, more),
         "get" => get(alloc, pool, key_at(keys.as_slice(), more)?),
         "give" => give(alloc, pool, key_at(keys.as_slice(), more)?),
         "set" => set(alloc, pool, keys.as_slice(), more),
@@ -47,9 +54,15 @@ fn key_at(keys: &[Key], number: &str) -> Option<Key> {
     keys.get(number.parse::<usize>().ok()?).copied()
 }
 
-fn take(alloc: Global, pool: &mut Pool<Text>, keys: &mut Vec<Key>, value: &str) -> Option<String>
-    requires { pool.old.drawn < 2 ^ 63 }
-    ensures { pool.new.drawn ≤ pool.old.drawn + 1 }
+fn take(
+    alloc: Global,
+    pool: &mut Pool<Text>,
+    keys: &mut Vec<Key>,
+    count: u32,
+    value: &str,
+) -> Option<String>
+    requires { pool.old.drawn ≤ count }
+    ensures { pool.new.drawn ≤ count + 1 }
 {
     let value = Text::from_str(alloc, value).ok()?;
     match pool.take(value) {
