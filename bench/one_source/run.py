@@ -4,7 +4,8 @@
 
 Run it by hand, after the gate has left the program; PROGRAM is another build of it. It needs jq, sqlite3 and GNU time. The child is `cat`,
 which gives prepared lines, so that what is timed is the command. jq only shows the columns of each line. sqlite3 first loads the lines into a
-table in memory, and that time counts. The answers of the command and of sqlite3 have to be the same.
+table in memory, and that time counts. The answers of the command and of sqlite3 have to be the same in csv; of the other forms, in which the
+two differ in details, the length of each answer is printed, too.
 """
 import os
 import statistics
@@ -21,6 +22,7 @@ name = "c"
 plugin = "p"
 command = ["cat", "lines.jsonl", "-"]
 """
+FORMS = ["table", "json", "line"]
 SOME = "select name, size from {} where size > 500 and region in ('eu', 'us') order by size desc, name limit 100"
 ALL = "select * from {}"
 LOAD = r"""create table line (text text);
@@ -39,7 +41,14 @@ from line where text -> '$.item' is not null;
 
 def trials(program):
     """Of each trial its name, its words and its input."""
-    command = [program, "query", "settings.toml", "--output", "csv"]
+    words = [program, "query", "settings.toml", "--output"]
+    command = [*words, "csv"]
+    forms = []
+    for form in FORMS:
+        forms += [
+            (f"command, {form}", [*words, form], ALL.format("c.item")),
+            (f"sqlite3, {form}", ["sqlite3"], LOAD + f".mode {form}\n" + ALL.format("item") + ";"),
+        ]
     show = "select(.item).item | [{}] | @csv"
     return [
         ("command, some", command, SOME.format("c.item")),
@@ -48,6 +57,7 @@ def trials(program):
         ("command, all", command, ALL.format("c.item")),
         ("jq, all columns", ["jq", "-r", show.format(".id, .name, .size, .region, .owner"), "lines.jsonl"], ""),
         ("sqlite3, all", ["sqlite3"], LOAD + ALL.format("item") + ";"),
+        *forms,
     ]
 
 
@@ -86,7 +96,8 @@ def main():
                 sys.exit(f"the answers differ: {statement}")
         for name, runs in figures.items():
             seconds, processor, kibibytes = map(statistics.median, zip(*runs))
-            print(f"{name:16} {seconds:5.2f} s, {processor:5.2f} s of processor, {kibibytes / 1024:4.0f} MiB")
+            length = os.path.getsize(name) / 1_000_000
+            print(f"{name:16} {seconds:5.2f} s, {processor:5.2f} s of processor, {kibibytes / 1024:4.0f} MiB, {length:5.1f} MB")
         os.chdir("/")
 
 

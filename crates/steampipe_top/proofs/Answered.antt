@@ -1,10 +1,10 @@
 -- A run that answered, and one that was refused.
-use Rattle.std.proofs.Common.{ℕ, List, Option, Result, Ok, Err, inl, inr}
+use Rattle.std.proofs.Common.{ℕ, List, Option, Result, Ok, Err, ◌⊎◌, inl, inr, refl}
 use Rattle.std.specs.Prelude.{OnOk, OnErr}
 use Rattle.std.specs.Io.KnownBytes.{Appends}
 use Rattle.sp_outside.specs.Causes.{HasCause}
 use Rattle.sp_outside.specs.Writing.{GrewByPrefix}
-use Rattle.steampipe_top.specs.Running.{IsNoted, IfAnswered}
+use Rattle.steampipe_top.specs.Running.{AsksLater, IsLaterWritten, IsNotYet, IsNoted, IfAnswered}
 use Rattle.steampipe_top.specs.declared.status.Status.{Status}
 use Rattle.steampipe_top.specs.declared.status.Status.TheVariants.{Done, Failed, Usage, Settings, FileFault, ReadFault, InputLimit, WriteFault, Memory}
 
@@ -24,3 +24,16 @@ pub noted : {E : Type 0} (r : Result (Unit {0}) E) (faults faults_after : ℕ) (
     → IsNoted faults faults_after held held_after line
 noted (Ok u) faults faults_after held held_after line whole part cause = inl whole
 noted (Err e) faults faults_after held held_after line whole part cause = inr (part, cause.failed)
+
+-- what comes later is answered so
+pub later : {P : Type 0} (s : Status) (words : List (List ℕ)) (held held_after notes : Option (List ℕ)) → AsksLater words → IsLaterWritten s held held_after
+    → IfAnswered s (P ⊎ IsNotYet words s held held_after notes notes)
+later Done words held held_after notes asks never = absurd never
+later Failed words held held_after notes asks written = inr (record { later = asks; written = written; silent = refl })
+later WriteFault words held held_after notes asks written = inr (record { later = asks; written = written; silent = refl })
+later Usage words held held_after notes asks never = tt
+later Settings words held held_after notes asks never = tt
+later FileFault words held held_after notes asks never = tt
+later ReadFault words held held_after notes asks never = tt
+later InputLimit words held held_after notes asks never = tt
+later Memory words held held_after notes asks never = tt

@@ -1,5 +1,3 @@
 mod Answered
+mod Asks
 mod Endings
-mod Fields
-mod Growing
-mod Texts

@@ -1,5 +1,2 @@
-pub mod Blocks
-pub mod Csv
-pub mod Notes
 pub mod Running
-pub mod Spelled
+pub mod Shown

@@ -1,5 +1,5 @@
 -- What a run of the program answers.
-use Rattle.std.specs.Prelude.{◌≡◌, ◌⊎◌, ℕ, ◌≤◌, List, [], ◌∷◌, ◌++◌, length, codes, bytes_eq, Bool, true, false, ◌&&◌, IsTrue, Option, Some, None, Err, Ok, if◌then◌else◌}
+use Rattle.std.specs.Prelude.{◌≡◌, ◌⊎◌, ℕ, ◌≤◌, List, [], ◌∷◌, ◌++◌, length, codes, Bool, true, false, IsTrue, Option, Some, None, Err, Ok, if◌then◌else◌}
 use Rattle.std.specs.List.{list_any, list_all}
 use Rattle.std.specs.Io.KnownBytes.{Appends}
 use Rattle.std.specs.Fmt.{decimal}
@@ -20,8 +20,16 @@ use Rattle.settings_text.specs.declared.fault.Entry.{Entry}
 use Rattle.settings_text.specs.declared.fault.Entry.TheVariants as entry
 use Rattle.settings_text.specs.declared.fault.SettingsFault.{SettingsFault}
 use Rattle.settings_text.specs.declared.fault.SettingsFault.TheVariants as fault
-use Rattle.steampipe_top.specs.Blocks.{blocks_text}
-use Rattle.steampipe_top.specs.Notes.{notes_text}
+use Rattle.answer_text.specs.Errors.{error_text}
+use Rattle.answer_text.specs.declared.answer.ErrorLine.TheVariants as error_line
+use Rattle.answer_text.specs.declared.answer.Form.{Form}
+use Rattle.command_words.specs.Words.{words_of}
+use Rattle.command_words.specs.declared.words.Command.{Command}
+use Rattle.command_words.specs.declared.words.Command.TheVariants.{Query}
+use Rattle.command_words.specs.declared.words.Words.{Words}
+use Rattle.steampipe_top.specs.Shown.{blocks_text, notes_text}
+use Rattle.steampipe_top.specs.declared.asking.Asked.{Asked}
+use Rattle.steampipe_top.specs.declared.asking.Asked.TheVariants as ask
 use Rattle.steampipe_top.specs.declared.reading.InputEnd.{InputEnd}
 use Rattle.steampipe_top.specs.declared.reading.InputEnd.TheVariants as no_lines
 use Rattle.steampipe_top.specs.declared.reading.SettingsEnd.{SettingsEnd}
@@ -29,11 +37,30 @@ use Rattle.steampipe_top.specs.declared.reading.SettingsEnd.TheVariants as no_se
 use Rattle.steampipe_top.specs.declared.status.Status.{Status}
 use Rattle.steampipe_top.specs.declared.status.Status.TheVariants.{Done, Failed, Usage, Settings as BadSettings, FileFault, ReadFault, InputLimit, WriteFault, Memory}
 
--- the program's name, `query`, a file, `--output`, `csv`
-abbrev pub words_of : List (List ℕ) → Option (List ℕ)
-words_of (program ∷ verb ∷ file ∷ option ∷ form ∷ []) =
-    if bytes_eq verb (codes "query") && bytes_eq option (codes "--output") && bytes_eq form (codes "csv") then Some file else None
-words_of _ = None
+-- ---- what the words ask for
+
+-- to answer the lines of the input by the settings of a file, in a form
+abbrev pub Asks : List (List ℕ) → List ℕ → Form → Type 0
+Asks words file form = words_of words ≡ Some (record { command = Query file; form = form })
+
+-- what comes later: `explain` or `load`
+abbrev pub IsLater : Command → Type 0
+IsLater (Query file) = ⊥
+IsLater _ = Unit {0}
+
+abbrev pub AsksLater : List (List ℕ) → Type 0
+AsksLater words = (w : Words) × (words_of words ≡ Some w) × IsLater w.command
+
+abbrev pub IsAskedBy : Asked → Words → Type 0
+IsAskedBy (ask.Query file form) w = w ≡ record { command = Query file; form = form }
+IsAskedBy ask.Later w = IsLater w.command
+IsAskedBy _ w = ⊥
+
+abbrev pub IsAsked : Asked → List (List ℕ) → Type 0
+IsAsked (ask.Query file form) words = Asks words file form
+IsAsked ask.Later words = AsksLater words
+IsAsked ask.Nothing words = words_of words ≡ None
+IsAsked ask.Memory words = Unit {0}
 
 abbrev pub entry_words : Entry → List ℕ
 entry_words entry.Top = codes "top"
@@ -136,7 +163,7 @@ IfAnswered _ P = Unit {0}
 
 -- a run that was refused before it answered, with the line that says so
 abbrev pub IfRefused : Status → (List ℕ → Type 0) → Type 0
-IfRefused Usage P = P (codes "usage: steampipe query SETTINGS --output csv\n")
+IfRefused Usage P = P (codes "usage: steampipe [--output line|csv|json|table] query SETTINGS, explain SETTINGS DECLARATION, load NUMBER\n")
 IfRefused FileFault P = P (codes "error: file fault\n")
 IfRefused ReadFault P = P (codes "error: read fault\n")
 IfRefused InputLimit P = P (codes "error: input limit\n")
@@ -154,16 +181,16 @@ abbrev pub IsNoted : ℕ → ℕ → Option (List ℕ) → Option (List ℕ) →
 IsNoted faults faults_after held held_after line = Appends held held_after line ⊎ (GrewByPrefix held held_after line × Rose faults faults_after)
 
 -- writing stopped: in the answers, before any note; or in the notes
-abbrev pub IsStopped : List Block → Option (List ℕ) → Option (List ℕ) → Option (List ℕ) → Option (List ℕ) → Type 0
-IsStopped blocks held held_after notes notes_after =
-    (GrewByPrefix held held_after (blocks_text blocks) × (notes_after ≡ notes))
-    ⊎ (Appends held held_after (blocks_text blocks) × GrewByPrefix notes notes_after (notes_text blocks))
+abbrev pub IsStopped : Form → List Block → Option (List ℕ) → Option (List ℕ) → Option (List ℕ) → Option (List ℕ) → Type 0
+IsStopped form blocks held held_after notes notes_after =
+    (GrewByPrefix held held_after (blocks_text form blocks) × (notes_after ≡ notes))
+    ⊎ (Appends held held_after (blocks_text form blocks) × GrewByPrefix notes notes_after (notes_text blocks))
 
 -- what the sinks of answers and notes hold after a run of this status: the whole texts, or beginnings of them where writing stopped
-abbrev pub IsWritten : Status → List Block → Option (List ℕ) → Option (List ℕ) → Option (List ℕ) → Option (List ℕ) → Type 0
-IsWritten WriteFault blocks held held_after notes notes_after = IsStopped blocks held held_after notes notes_after
-IsWritten status blocks held held_after notes notes_after =
-    (status ≡ blocks_status blocks) × Appends held held_after (blocks_text blocks) × Appends notes notes_after (notes_text blocks)
+abbrev pub IsWritten : Form → Status → List Block → Option (List ℕ) → Option (List ℕ) → Option (List ℕ) → Option (List ℕ) → Type 0
+IsWritten form WriteFault blocks held held_after notes notes_after = IsStopped form blocks held held_after notes notes_after
+IsWritten form status blocks held held_after notes notes_after =
+    (status ≡ blocks_status blocks) × Appends held held_after (blocks_text form blocks) × Appends notes notes_after (notes_text blocks)
 
 -- the number that a program ends with
 abbrev pub status_number : Status → ℕ
@@ -179,7 +206,7 @@ status_number Memory = 8
 
 -- an input was answered by settings: its whole was read; the answers are the defined ones, where the children tell; the children of all connections
 -- came back in their order, each spent restart budget has its lost child among them; the texts of the answers and of their notes were written
-pub record HasAnswered {Kid : Type 0} (faulted gives : Kid → ℕ) (own : Kid → List ℕ) (tells : Bool) (book : Book) (settings : Settings) (status : Status)
+pub record HasAnswered {Kid : Type 0} (faulted gives : Kid → ℕ) (own : Kid → List ℕ) (tells : Bool) (book : Book) (settings : Settings) (form : Form) (status : Status)
     (left left_after held held_after notes notes_after : Option (List ℕ)) (back back_after : List Kid) : Type 0 where
   pub input : List ℕ
   pub read : IsInput left left_after input
@@ -187,23 +214,24 @@ pub record HasAnswered {Kid : Type 0} (faulted gives : Kid → ℕ) (own : Kid �
   pub defined : IsTrue tells → AreAnswers book settings (blocks_of input) blocks
   pub text : AreByText settings (blocks_of input) blocks
   pub over : AreOver faulted gives own (IsTrue tells × IsHonest book) 0 settings.connections back back_after blocks
-  pub written : IsWritten status blocks held held_after notes notes_after
+  pub written : IsWritten form status blocks held held_after notes notes_after
 
--- the words name a file, whose settings these are
-pub record AreNamed (words : List (List ℕ)) (files : List ℕ → Option (Option (List ℕ))) (settings : Settings) : Type 0 where
+-- the words ask for answers by a file, whose settings these are, in a form
+pub record AreNamed (words : List (List ℕ)) (files : List ℕ → Option (Option (List ℕ))) (settings : Settings) (form : Form) : Type 0 where
   pub file : List ℕ
-  pub named : words_of words ≡ Some file
+  pub named : Asks words file form
   pub are : AreSettings (files file) settings
 
 -- no child came back; or those of the first connections of the settings that the words name, in their order
 abbrev pub AreReturned : {Kid : Type 0} → (Kid → List ℕ) → List (List ℕ) → (List ℕ → Option (Option (List ℕ))) → List Kid → List Kid → Type 0
 AreReturned {Kid} own words files back back_after =
-    (back_after ≡ back) ⊎ ((settings : Settings) × AreNamed words files settings × ((children : List Kid) × CameBack own settings.connections back back_after children))
+    (back_after ≡ back) ⊎ ((settings : Settings) × (form : Form) × AreNamed words files settings form × ((children : List Kid) × CameBack own settings.connections back back_after children))
 
 -- the words name a file whose settings are refused, by a line of which this holds
 pub record AreNone (words : List (List ℕ)) (files : List ℕ → Option (Option (List ℕ))) (faults faults_after : ℕ) (P : List ℕ → Type 0) : Type 0 where
   pub file : List ℕ
-  pub named : words_of words ≡ Some file
+  pub form : Form
+  pub named : Asks words file form
   pub why : List ℕ
   pub refused : AreRefused (files file) faults faults_after why
   pub line : P (settings_line why)
@@ -212,5 +240,18 @@ pub record AreNone (words : List (List ℕ)) (files : List ℕ → Option (Optio
 pub record HasRun {Kid : Type 0} (faulted gives : Kid → ℕ) (own : Kid → List ℕ) (tells : Bool) (book : Book) (words : List (List ℕ))
     (files : List ℕ → Option (Option (List ℕ))) (status : Status) (left left_after held held_after notes notes_after : Option (List ℕ)) (back back_after : List Kid) : Type 0 where
   pub settings : Settings
-  pub named : AreNamed words files settings
-  pub answered : HasAnswered faulted gives own tells book settings status left left_after held held_after notes notes_after back back_after
+  pub form : Form
+  pub named : AreNamed words files settings form
+  pub answered : HasAnswered faulted gives own tells book settings form status left left_after held held_after notes notes_after back back_after
+
+-- what is written where the words ask for what comes later
+abbrev pub IsLaterWritten : Status → Option (List ℕ) → Option (List ℕ) → Type 0
+IsLaterWritten Failed held held_after = Appends held held_after (error_text error_line.NotYet)
+IsLaterWritten WriteFault held held_after = GrewByPrefix held held_after (error_text error_line.NotYet)
+IsLaterWritten _ held held_after = ⊥
+
+-- the words ask for what comes later, and the answers say so, and nothing else
+pub record IsNotYet (words : List (List ℕ)) (status : Status) (held held_after notes notes_after : Option (List ℕ)) : Type 0 where
+  pub later : AsksLater words
+  pub written : IsLaterWritten status held held_after
+  pub silent : notes_after ≡ notes

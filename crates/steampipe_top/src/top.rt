@@ -1,13 +1,16 @@
 ghost use Rattle.std.specs.Prelude.{◌≡◌, ◌≢◌, ◌⊎◌, ◌∷◌, [], List, length, MatchOption};
 ghost use Rattle.sp_outside.specs.Causes.{Rose};
 ghost use Rattle.sp_model.specs.declared.settings.Settings.{Settings};
+ghost use Rattle.answer_text.specs.declared.answer.Form.{Form};
+ghost use Rattle.command_words.specs.Words.{words_of};
 ghost use Rattle.run_lines.specs.Blocks.{CameBack};
-ghost use Rattle.steampipe_top.specs.Running.{words_of, AreNamed, AreNone, AreReturned, IsOverLimit, IsPastSettings, HasAnswered, HasRun, IsNoted, IfAnswered, IfRefused};
+ghost use Rattle.steampipe_top.specs.Running.{AreNamed, AreNone, AreReturned, IsOverLimit, IsPastSettings, HasAnswered, HasRun, IsNotYet, IsNoted, IfAnswered, IfRefused};
 
+use crate::asking::{Asked, what_is_asked};
 use crate::reading::{InputEnd, SettingsEnd, lines_of, settings_of};
 use crate::status::Status;
-use crate::words::read_words;
-use crate::writing::{refuse, write_blocks};
+use crate::writing::{refuse, write_blocks, write_not_yet};
+use answer_text::Form;
 use run_lines::run_lines;
 use sp_model::Settings;
 use sp_outside::{Clock, Nursery, Shelf, Sink, Source};
@@ -15,12 +18,14 @@ use sp_value::{Memory, Text};
 use sp_world::World;
 use std::alloc::Global;
 
-const USAGE: &[u8] = b"usage: steampipe query SETTINGS --output csv\n";
+const USAGE: &[u8] =
+    b"usage: steampipe [--output line|csv|json|table] query SETTINGS, explain SETTINGS DECLARATION, load NUMBER\n";
 
 /// Reads and answers an input by settings, and writes the answers and then the notes.
 fn run<W: World, I: Source, O: Sink, N: Sink, M: Nursery<W>, K: Clock>(
     alloc: Global,
     settings: &Settings,
+    form: Form,
     input: &mut I,
     answers: &mut O,
     notes: &mut N,
@@ -28,7 +33,7 @@ fn run<W: World, I: Source, O: Sink, N: Sink, M: Nursery<W>, K: Clock>(
     clock: &K,
 ) -> Status
     requires all_back { length (M.back nursery.old) ≡ M.made nursery.old }
-    ensures answered { IfAnswered result (HasAnswered M.Kid.faulted M.Kid.gives M.Kid.connection W.tells W.book settings.now result (I.left input.old) (I.left input.new) (O.held answers.old) (O.held answers.new) (N.held notes.old) (N.held notes.new) (M.back nursery.old) (M.back nursery.new)) }
+    ensures answered { IfAnswered result (HasAnswered M.Kid.faulted M.Kid.gives M.Kid.connection W.tells W.book settings.now form result (I.left input.old) (I.left input.new) (O.held answers.old) (O.held answers.new) (N.held notes.old) (N.held notes.new) (M.back nursery.old) (M.back nursery.new)) }
     ensures read_fault { result ≡ Status.ReadFault → Rose (I.faulted input.old) (I.faulted input.new) }
     ensures input_limit { result ≡ Status.InputLimit → IsOverLimit (I.left input.old) (I.left input.new) }
     ensures write_fault { result ≡ Status.WriteFault → Rose (O.faulted answers.old) (O.faulted answers.new) ⊎ Rose (N.faulted notes.old) (N.faulted notes.new) }
@@ -44,7 +49,7 @@ fn run<W: World, I: Source, O: Sink, N: Sink, M: Nursery<W>, K: Clock>(
         Err(InputEnd::Memory) => return Status::Memory,
     };
     match run_lines::<W, M, K>(alloc, settings, lines.as_slice(), nursery, clock) {
-        Ok(blocks) => write_blocks(alloc, blocks.as_slice(), answers, notes),
+        Ok(blocks) => write_blocks(alloc, form, blocks, answers, notes),
         Err(Memory) => Status::Memory,
     }
 }
@@ -52,7 +57,8 @@ fn run<W: World, I: Source, O: Sink, N: Sink, M: Nursery<W>, K: Clock>(
 /// The program: reads the words, the settings file and the whole input, answers its lines over a child of each connection, and writes
 /// the answers and then the notes.
 ///
-/// The words are `PROGRAM query SETTINGS --output csv`, all others are `Usage`. The input has at most 1,048,576 bytes and 10,000 lines.
+/// The words are those of `command_words`, all others are `Usage`; `explain` and `load` come later, and are answered so. The input has at
+/// most 1,048,576 bytes and 10,000 lines.
 /// A run that is refused writes one line to the notes and nothing to the answers.
 pub fn steampipe<W: World, I: Source, F: Shelf, O: Sink, N: Sink, M: Nursery<W>, K: Clock + Sync>(
     alloc: Global,
@@ -65,26 +71,28 @@ pub fn steampipe<W: World, I: Source, F: Shelf, O: Sink, N: Sink, M: Nursery<W>,
     clock: &K,
 ) -> Status
     requires all_back { length (M.back nursery.old) ≡ M.made nursery.old }
-    ensures answered { IfAnswered result (HasRun M.Kid.faulted M.Kid.gives M.Kid.connection W.tells W.book words.now (F.file files.old) result (I.left input.old) (I.left input.new) (O.held answers.old) (O.held answers.new) (N.held notes.old) (N.held notes.new) (M.back nursery.old) (M.back nursery.new)) }
-    ensures usage { MatchOption (words_of words.now) (result ≡ Status.Usage) (λ _. result ≢ Status.Usage) }
+    ensures answered { IfAnswered result (HasRun M.Kid.faulted M.Kid.gives M.Kid.connection W.tells W.book words.now (F.file files.old) result (I.left input.old) (I.left input.new) (O.held answers.old) (O.held answers.new) (N.held notes.old) (N.held notes.new) (M.back nursery.old) (M.back nursery.new) ⊎ IsNotYet words.now result (O.held answers.old) (O.held answers.new) (N.held notes.old) (N.held notes.new)) }
+    ensures usage { MatchOption (words_of words.now) ((result ≡ Status.Usage) ⊎ (result ≡ Status.Memory)) (λ _. result ≢ Status.Usage) }
     ensures settings { result ≡ Status.Settings → AreNone words.now (F.file files.old) (F.faulted files.old) (F.faulted files.new) (λ line. (O.held answers.new ≡ O.held answers.old) × IsNoted (N.faulted notes.old) (N.faulted notes.new) (N.held notes.old) (N.held notes.new) line) }
     ensures file_fault { result ≡ Status.FileFault → Rose (F.faulted files.old) (F.faulted files.new) }
-    ensures read_fault { result ≡ Status.ReadFault → ((settings : Settings) × AreNamed words.now (F.file files.old) settings) × Rose (I.faulted input.old) (I.faulted input.new) }
-    ensures input_limit { result ≡ Status.InputLimit → ((settings : Settings) × AreNamed words.now (F.file files.old) settings) × IsOverLimit (I.left input.old) (I.left input.new) }
+    ensures read_fault { result ≡ Status.ReadFault → ((settings : Settings) × (form : Form) × AreNamed words.now (F.file files.old) settings form) × Rose (I.faulted input.old) (I.faulted input.new) }
+    ensures input_limit { result ≡ Status.InputLimit → ((settings : Settings) × (form : Form) × AreNamed words.now (F.file files.old) settings form) × IsOverLimit (I.left input.old) (I.left input.new) }
     ensures write_fault { result ≡ Status.WriteFault → Rose (O.faulted answers.old) (O.faulted answers.new) ⊎ Rose (N.faulted notes.old) (N.faulted notes.new) }
     ensures refused { IfRefused result (λ line. (O.held answers.new ≡ O.held answers.old) × IsNoted (N.faulted notes.old) (N.faulted notes.new) (N.held notes.old) (N.held notes.new) line) }
     ensures children { AreReturned M.Kid.connection words.now (F.file files.old) (M.back nursery.old) (M.back nursery.new) }
     ensures back { length (M.back nursery.new) ≡ M.made nursery.new }
 {
-    let Some(file) = read_words(words) else {
-        return refuse(notes, USAGE, Status::Usage);
-    };
-    match settings_of(alloc, files, file) {
-        Ok(settings) => {
-            run::<W, I, O, N, M, K>(alloc, &settings, input, answers, notes, nursery, clock)
-        }
-        Err(SettingsEnd::Refused(line)) => refuse(notes, &line, Status::Settings),
-        Err(SettingsEnd::Fault) => refuse(notes, b"error: file fault\n", Status::FileFault),
-        Err(SettingsEnd::Memory) => Status::Memory,
+    match what_is_asked(alloc, words) {
+        Asked::Query { settings, form } => match settings_of(alloc, files, &settings) {
+            Ok(settings) => run::<W, I, O, N, M, K>(
+                alloc, &settings, form, input, answers, notes, nursery, clock,
+            ),
+            Err(SettingsEnd::Refused(line)) => refuse(notes, &line, Status::Settings),
+            Err(SettingsEnd::Fault) => refuse(notes, b"error: file fault\n", Status::FileFault),
+            Err(SettingsEnd::Memory) => Status::Memory,
+        },
+        Asked::Later => write_not_yet(answers),
+        Asked::Nothing => refuse(notes, USAGE, Status::Usage),
+        Asked::Memory => Status::Memory,
     }
 }

@@ -1,18 +1,18 @@
 // Answers and notes, written.
 
-ghost use Rattle.std.specs.Prelude.{◌≡◌, ◌⊎◌, ◌++◌, IfOk, OnOk};
+ghost use Rattle.std.specs.Prelude.{◌≡◌, ◌⊎◌, ◌++◌, map, IfOk, OnOk};
 ghost use Rattle.sp_outside.specs.Causes.{Rose};
-ghost use Rattle.steampipe_top.specs.Blocks.{blocks_text};
-ghost use Rattle.steampipe_top.specs.Notes.{notes_text};
-ghost use Rattle.steampipe_top.specs.Running.{is_memory, is_rows, any_memory, all_rows, blocks_status, IsNoted, IsWritten, IsPastSettings, IfAnswered, IfRefused};
+ghost use Rattle.steampipe_top.specs.Running.{is_memory, is_rows, any_memory, all_rows, blocks_status, IsNoted, IsWritten, IsLaterWritten, IsPastSettings, IfAnswered, IfRefused};
+ghost use Rattle.steampipe_top.specs.Shown.{shown_block, texts_of, blocks_text, notes_from, notes_text};
 
-use crate::block_text::block_text;
-use crate::note_text::block_notes;
+use crate::shown::{ShownBlock, shown_block};
 use crate::status::Status;
+use answer_text::{Form, block, notes};
 use run_lines::Block;
 use session_core::AnswerEnd;
 use sp_outside::{Sink, write_all};
 use sp_value::Memory;
+use sqlite_items::Items;
 use std::alloc::Global;
 
 /// Writes one line to the notes, as far as they take it.
@@ -61,14 +61,29 @@ fn blocks_status(blocks: &[Block]) -> Status
     }
 }
 
-/// The texts of blocks, one empty line between two of them.
-fn blocks_text(alloc: Global, blocks: &[Block]) -> Result<Vec<u8>, Memory>
-    ensures { IfOk result (λ v. v.items ≡ blocks_text blocks.now) }
+/// Blocks as they are shown, in their order.
+fn shown_blocks(alloc: Global, blocks: Items<Block>) -> Result<Vec<ShownBlock>, Memory>
+    ensures { IfOk result (λ v. v.items ≡ map shown_block blocks) }
+{
+    let mut left = blocks;
+    let mut shown = Vec::with_capacity(alloc, left.len())?;
+    'more: while let Some(block) = left.pop() {
+        let Ok(()) = shown.push(shown_block(block)) else {
+            return Err(Memory);
+        };
+    }
+    shown.reverse();
+    Ok(shown)
+}
+
+/// The texts of blocks in a form, one empty line between two of them.
+fn texts_of(alloc: Global, form: Form, blocks: &[ShownBlock]) -> Result<Vec<u8>, Memory>
+    ensures { IfOk result (λ v. v.items ≡ texts_of form blocks.now) }
 {
     let mut text = Vec::new(alloc);
     let mut rest = blocks;
-    'more: while let [block, others @ ..] = rest {
-        let answer = block_text(alloc, &block.answer)?;
+    'more: while let [shown, others @ ..] = rest {
+        let answer = block(alloc, form, &shown.answer)?;
         push_all(&mut text, &answer)?;
         if !others.is_empty() {
             push_all(&mut text, b"\n")?;
@@ -79,17 +94,34 @@ fn blocks_text(alloc: Global, blocks: &[Block]) -> Result<Vec<u8>, Memory>
 }
 
 /// The notes of blocks, which count from 1.
-fn notes_text(alloc: Global, blocks: &[Block]) -> Result<Vec<u8>, Memory>
-    ensures { IfOk result (λ v. v.items ≡ notes_text blocks.now) }
+fn notes_of(alloc: Global, blocks: &[ShownBlock]) -> Result<Vec<u8>, Memory>
+    ensures { IfOk result (λ v. v.items ≡ notes_from 0 blocks.now) }
 {
     let mut text = Vec::new(alloc);
     let mut number: u64 = 0;
-    for block in blocks {
+    for shown in blocks {
         number += 1;
-        let lines = block_notes(alloc, number, block)?;
+        let lines = notes(alloc, number, shown.session, &shown.answer)?;
         push_all(&mut text, &lines)?;
     }
     Ok(text)
+}
+
+/// What is to be written: the answers and the notes of blocks.
+#[derive(Drop)]
+struct Written {
+    answers: Vec<u8>,
+    notes: Vec<u8>,
+}
+
+fn to_write(alloc: Global, form: Form, blocks: Items<Block>) -> Result<Written, Memory>
+    ensures answers { IfOk result (λ w. w.answers.items ≡ blocks_text form blocks) }
+    ensures notes { IfOk result (λ w. w.notes.items ≡ notes_text blocks) }
+{
+    let shown = shown_blocks(alloc, blocks)?;
+    let answers = texts_of(alloc, form, &shown)?;
+    let notes = notes_of(alloc, &shown)?;
+    Ok(Written { answers, notes })
 }
 
 fn push_all(text: &mut Vec<u8>, more: &[u8]) -> Result<(), Memory>
@@ -101,27 +133,42 @@ fn push_all(text: &mut Vec<u8>, more: &[u8]) -> Result<(), Memory>
     }
 }
 
+/// Says in the answers that what is asked for comes later.
+pub(crate) fn write_not_yet<O: Sink>(answers: &mut O) -> Status
+    ensures written { IsLaterWritten result (O.held answers.old) (O.held answers.new) }
+    ensures ends { IfRefused result (λ _. ⊥) }
+    ensures later { IsPastSettings result }
+    ensures cause { result ≡ Status.WriteFault → Rose (O.faulted answers.old) (O.faulted answers.new) }
+{
+    match write_all(answers, b"error: not yet\n") {
+        Ok(()) => Status::Failed,
+        Err(_) => Status::WriteFault,
+    }
+}
+
 /// Writes the answers of blocks and then their notes. Where memory is wanting for their texts, only the line that says so is written.
 pub(crate) fn write_blocks<O: Sink, N: Sink>(
     alloc: Global,
-    blocks: &[Block],
+    form: Form,
+    blocks: Items<Block>,
     answers: &mut O,
     notes: &mut N,
 ) -> Status
-    ensures written { IfAnswered result (IsWritten result blocks.now (O.held answers.old) (O.held answers.new) (N.held notes.old) (N.held notes.new)) }
+    ensures written { IfAnswered result (IsWritten form result blocks (O.held answers.old) (O.held answers.new) (N.held notes.old) (N.held notes.new)) }
     ensures ends { IfRefused result (λ _. ⊥) }
     ensures later { IsPastSettings result }
     ensures cause { result ≡ Status.WriteFault → Rose (O.faulted answers.old) (O.faulted answers.new) ⊎ Rose (N.faulted notes.old) (N.faulted notes.new) }
 {
-    let (Ok(texts), Ok(lines)) = (blocks_text(alloc, blocks), notes_text(alloc, blocks)) else {
+    let status = blocks_status(blocks.as_slice());
+    let Ok(written) = to_write(alloc, form, blocks) else {
         let _ = write_all(answers, b"error: memory\n");
         return Status::Memory;
     };
-    if write_all(answers, &texts).is_err() {
+    if write_all(answers, &written.answers).is_err() {
         return Status::WriteFault;
     }
-    if write_all(notes, &lines).is_err() {
+    if write_all(notes, &written.notes).is_err() {
         return Status::WriteFault;
     }
-    blocks_status(blocks)
+    status
 }
