@@ -1,5 +1,5 @@
 -- A run that answered, and one that was refused.
-use Rattle.std.proofs.Common.{ℕ, List, Option, Result, Ok, Err, ◌⊎◌, inl, inr, refl}
+use Rattle.std.proofs.Common.{◌≡◌, ◌≢◌, ℕ, List, Option, Some, None, MatchOption, Result, Ok, Err, ◌⊎◌, inl, inr, refl}
 use Rattle.std.specs.Prelude.{OnOk, OnErr}
 use Rattle.std.specs.Io.KnownBytes.{Appends}
 use Rattle.sp_outside.specs.Causes.{HasCause}
@@ -37,3 +37,8 @@ later FileFault words held held_after notes asks never = tt
 later ReadFault words held held_after notes asks never = tt
 later InputLimit words held held_after notes asks never = tt
 later Memory words held held_after notes asks never = tt
+
+-- want of memory is free, whatever the words are
+pub memory_is_free : {X : Type 0} (o : Option X) → MatchOption o ((Memory ≡ Usage) ⊎ (Memory ≡ Memory)) (λ x. Memory ≢ Usage)
+memory_is_free None = inr refl
+memory_is_free (Some x) = cc
