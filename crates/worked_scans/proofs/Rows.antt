@@ -14,10 +14,10 @@ use Rattle.hydrate_graph.specs.declared.ends.RowEnd.{RowEnd}
 use Rattle.hydrate_graph.specs.declared.ends.RowEnd.TheVariants as end
 
 broken_at : (columns : List ColumnDecl) (row : Option Row) (number : ℕ) → IsEndOf columns row (Some (end.Fails number)) → IsBroken row
-broken_at columns row number (why, (column, (at, is))) = (column.name, (why, is))
+broken_at columns row number (why, (column, at, is)) = (column.name, why, is)
 
-pub broken : (columns : List ColumnDecl) (row : Option Row) (e : Option RowEnd) (number : ℕ) → e ≡ Some (end.Fails number) → IsEndOf columns row e → IsBroken row
-broken columns row e number is h = broken_at columns row number (subst (IsEndOf columns row) is h)
+pub broken : (columns : List ColumnDecl) (row : Option Row) (e : RowEnd) (number : ℕ) → e ≡ end.Fails number → IsEndOf columns row (Some e) → IsBroken row
+broken columns row e number is h = broken_at columns row number (subst (λ e. IsEndOf columns row (Some e)) is h)
 
 pub few_functions : (t : TableDecl) → IsSound t → length t.functions ≤ 64
 few_functions t s = search (arith, s.limits)

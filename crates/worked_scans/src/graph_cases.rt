@@ -79,7 +79,6 @@ fn outcome_of(alloc: Global, name: &str, how: &str) -> Option<Outcome> {
     }
 }
 
-#[tactic(auto, using(crate::proofs::Rows::broken))]
 fn end_words(alloc: Global, graph: &RowGraph) -> Option<String> {
     match graph.finished() {
         None => word(alloc, "waits"),

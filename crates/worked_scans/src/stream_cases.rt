@@ -36,15 +36,33 @@ fn list_call(alloc: Global) -> Option<CallKey> {
     })
 }
 
+fn asked_of(alloc: Global, call: &CallKey) -> Option<Arc<Asked, Global>>
+    ensures { IfSome result (λ a. arc_value a ≡ asks.Call call.now) }
+{
+    let call = call.copy(alloc).ok()?;
+    Arc::new(alloc, Asked::Call(call)).ok()
+}
+
 /// Steps over the stream of a call: a number feeds the item of this place, `end N` the ending after N items; `again` restarts, and
 /// `next` takes an item.
 fn steps(alloc: Global, given: &[Vec<u8>]) -> Option<String> {
     let call = list_call(alloc)?;
-    let asked = Arc::new(alloc, Asked::Call(call.copy(alloc).ok()?)).ok()?;
+    let asked = asked_of(alloc, &call)?;
     let mut stream: ListStream<Untold> = ListStream::begin(alloc, call);
+    run(alloc, &asked, &mut stream, str_at(given, 0)?)
+}
+
+fn run(
+    alloc: Global,
+    asked: &Arc<Asked, Global>,
+    stream: &mut ListStream<Untold>,
+    steps: &str,
+) -> Option<String>
+    requires { arc_value asked.now ≡ asks.Call stream.old.call }
+{
     let mut words = String::new(alloc);
-    for text in str_at(given, 0)?.split(", ") {
-        let came = step(alloc, &asked, &mut stream, text)?;
+    for text in steps.split(", ") {
+        let came = step(alloc, asked, stream, text)?;
         push_word(&mut words, ", ", came.as_str())?;
     }
     Some(words)
