@@ -1,7 +1,9 @@
-//! Runs tables of worked cases, from the files that its arguments name: over the crates that a scan is made of. It prints how many cases
-//! each table has, and each case at which another text came than has to come, or nothing.
+//! Runs tables of worked cases, from the files that its arguments name: over the crates that a scan is made of, of
+//! limits and of kept scans. It prints how many cases each table has, and each case at which another text came than has to come, or nothing.
 #![tactic(auto)]
 
+mod bucket_cases;
+mod cache_cases;
 mod graph_cases;
 mod pool_cases;
 mod retry_cases;
@@ -17,6 +19,8 @@ struct Crates;
 impl Outcomes for Crates {
     fn outcome(alloc: Global, of: &str, call: &str, given: &[Vec<u8>]) -> Option<String> {
         match of {
+            "rate_bucket" => bucket_cases::outcome(alloc, call, given),
+            "query_cache" => cache_cases::outcome(alloc, call, given),
             "hydrate_graph" => graph_cases::outcome(alloc, call, given),
             "retry_ignore" => retry_cases::outcome(alloc, call, given),
             "row_pool" => pool_cases::outcome(alloc, call, given),
