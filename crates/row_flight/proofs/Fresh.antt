@@ -12,7 +12,7 @@ use Rattle.row_flight.specs.Flying.{InFlight, Seated, Puts, rows_in, rows_of}
 use Rattle.row_flight.specs.Hearing.{RowHears, AllHear}
 use Rattle.row_flight.specs.Rows.{attempt_in, slot_of, begun, flight_row}
 
-none_known : (n k : ℕ) → get_or (replicate n (let none : Option Outcome = None in none)) k None ≡ None
+pub none_known : (n k : ℕ) → get_or (replicate n (let none : Option Outcome = None in none)) k None ≡ None
 none_known zero k = refl
 none_known (suc n) zero = refl
 none_known (suc n) (suc k) = none_known n k
@@ -22,7 +22,7 @@ fresh_get zero k = refl
 fresh_get (suc n) zero = refl
 fresh_get (suc n) (suc k) = fresh_get n k
 
-fresh_in : (n : ℕ) (slot : Option ℕ) → attempt_in (replicate n fresh) slot ≡ fresh
+pub fresh_in : (n : ℕ) (slot : Option ℕ) → attempt_in (replicate n fresh) slot ≡ fresh
 fresh_in n None = refl
 fresh_in n (Some slot) = fresh_get n slot
 
@@ -38,7 +38,7 @@ module _ (p : Plan) (item : Cell) where
     listed = λ name. (at_first name i).listed;
   }
 
-  begun_hears : (table : TableDecl) (answers : Answers) → RowHears table answers (begun p item)
+  pub begun_hears : (table : TableDecl) (answers : Answers) → RowHears table answers (begun p item)
   begun_hears table answers = record {
     first = λ f results x found given came. let bad : None ≡ Some x = sym (ap (λ a. a.item) (at_first f.name)) ∙ came in absurd (cc);
     unlisted = λ f found l. ap (λ a. a.item) (at_first f.name);

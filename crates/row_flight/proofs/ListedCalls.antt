@@ -47,6 +47,10 @@ module _ (row : RowCalls) (k slot : ℕ) (placed : IsPlaced row k slot) where
       let bad : true ≡ false = sym (and_right (is_ready row.graph j) (attempt_of row j).listed o) ∙ ap (λ n. (attempt_of row n).listed) e ∙ l in
       absurd (cc)
 
+  listed_differs : (j : ℕ) → (j ≡ k) ⊎ (j ≡ k → ⊥) → listed_attempt (attempt_of (row_lists row k) j) ≡ listed_attempt (attempt_of row j)
+  listed_differs j (inl e) = ap (λ n. listed_attempt (attempt_of (row_lists row k) n)) e ∙ ap listed_attempt listed_here ∙ sym (ap (λ n. listed_attempt (attempt_of row n)) e)
+  listed_differs j (inr other) = ap listed_attempt (listed_other j other)
+
   -- the present attempt of a ready function is listed
   pub lists_one : (frame : CallFrame) (seat : Seat) (w : Wanted) (before after : List Wanted) → k ≡ seat.function → IsRow row → is_ready row.graph k ≡ true → (attempt_of row k).listed ≡ false → IsCallOf frame seat row w → after ≡ before ++ w ∷ []
       → RowLists frame seat.scan (key_at seat) row (row_lists row k) before after
@@ -57,6 +61,7 @@ module _ (row : RowCalls) (k slot : ℕ) (placed : IsPlaced row k slot) where
         graph = refl;
         sound = record { room = attempts_length row.attempts (slot_of row.graph.plan k) (listed_attempt (attempt_of row k)) ∙ is.room; rules = is.rules; settled = is.settled };
         stays = λ j o. listed_stays l j o (cases_eq j k);
+        differs = λ j. listed_differs j (cases_eq j k);
         jobs = λ place v at. jobs place v at;
         keeps = λ table request answers name functions columns sound apart agrees hears.
             listed_goes table request answers row k slot apart functions sound placed may agrees hears columns l w.call.call w.call.attempt
@@ -97,6 +102,7 @@ lists_nothing frame scan key row before is = record {
   graph = refl;
   sound = is;
   stays = λ k o. refl;
+  differs = λ k. refl;
   jobs = λ place w at. absurd (cc);
   keeps = λ table request answers name functions columns sound apart agrees hears. record { keeps = stays table request answers (flight_row row) agrees; hears = hears };
 }
@@ -147,6 +153,7 @@ lists_then frame scan key a b c xs ys zs first second = record {
   graph = second.graph ∙ first.graph;
   sound = second.sound;
   stays = λ k o. second.stays k (open_stays frame scan key a b xs ys first k o) ∙ first.stays k o;
+  differs = λ k. second.differs k ∙ first.differs k;
   jobs = get_both (IsRowJob frame scan key c) first.more second.more (λ place w at. job_stays frame scan key b c ys zs second key w (first.jobs place w at)) second.jobs;
   keeps = λ table request answers name functions columns sound apart agrees hears.
       let one = first.keeps table request answers name functions columns sound apart agrees hears in

@@ -18,7 +18,7 @@ use Rattle.row_flight.proofs.Pooling.{key_cases, new_differs, row_first, seated_
 use Rattle.row_flight.specs.Rows.{IsRow}
 use Rattle.row_flight.specs.Flying.{InFlight, Seated, IsOf, key_at, rows_in}
 use Rattle.row_flight.specs.Hearing.{AllHear, Keeps}
-use Rattle.row_flight.specs.Jobs.{made_of, IsRowJob, IsJobOf, AreListed, RowLists, Lists, PoolLists, RowsListed}
+use Rattle.row_flight.specs.Jobs.{made_of, DiffersInListed, DifferInListed, IsRowJob, IsJobOf, AreListed, RowLists, Lists, PoolLists, RowsListed}
 use Rattle.row_flight.specs.Pooled.{with_row, seated, AreApart as KeysApart, IsFlight, IsSound, Rewrites, RowsShown}
 use Rattle.row_flight.specs.declared.frame.CallFrame.{CallFrame}
 use Rattle.row_flight.specs.declared.frame.Wanted.{Wanted}
@@ -46,6 +46,22 @@ split_rows p q (k ∷ keys) (suc place) key row next at apart is changes =
           ∙ sym (append_assoc (with_row k (shown p k) []) rest.0 (record { key = key; row = next } ∷ rest.1)),
     )
 
+differ_none : (rows : List Seated) → DifferInListed rows rows
+differ_none [] = tt
+differ_none (s ∷ ss) = (refl, record { graph = refl; attempts = λ k. refl }, differ_none ss)
+
+differ_on : (xs ys zs : List Seated) → DifferInListed xs ys → DifferInListed ys zs → DifferInListed xs zs
+differ_on [] [] zs d e = e
+differ_on [] (t ∷ ts) zs d e = absurd d
+differ_on (s ∷ ss) [] zs d e = absurd d
+differ_on (s ∷ ss) (t ∷ ts) [] d e = absurd e
+differ_on (s ∷ ss) (t ∷ ts) (u ∷ us) d e =
+    (e.0 ∙ d.0, record { graph = e.1.graph ∙ d.1.graph; attempts = λ k. e.1.attempts k ∙ d.1.attempts k }, differ_on ss ts us d.2 e.2)
+
+differ_one : (before : List Seated) (s t : Seated) (after : List Seated) → t.key ≡ s.key → DiffersInListed s.row t.row → DifferInListed (before ++ s ∷ after) (before ++ t ∷ after)
+differ_one [] s t after key d = (key, d, differ_none after)
+differ_one (b ∷ bs) s t after key d = (refl, record { graph = refl; attempts = λ k. refl }, differ_one bs s t after key d)
+
 pub lists_none : (scan : ℕ) (f : InFlight) (xs : List Wanted) → Lists scan f f xs xs
 lists_none scan f xs = record {
   more = [];
@@ -53,6 +69,7 @@ lists_none scan f xs = record {
   plan = refl;
   frame = refl;
   window = refl;
+  differ = differ_none f.rows;
   stays = λ w job. job;
   jobs = λ place w at. absurd (cc);
   keeps = λ table request answers of apart agree hear. nothing_goes table request answers f.rows agree hear;
@@ -69,6 +86,7 @@ lists_on scan a b c xs ys zs first second = record {
   plan = second.plan ∙ first.plan;
   frame = second.frame ∙ first.frame;
   window = second.window ∙ first.window;
+  differ = differ_on a.rows b.rows c.rows first.differ second.differ;
   stays = λ w job. second.stays w (first.stays w job);
   jobs = get_both (IsJobOf scan c) first.more second.more (λ place w at. second.stays w (first.jobs place w at)) second.jobs;
   keeps = λ table request answers of apart agree hear.
@@ -112,6 +130,7 @@ module _ (plan : Plan) (frame : CallFrame) (window number : ℕ) (p q : Pool Row
     plan = refl;
     frame = refl;
     window = refl;
+    differ = differ;
     stays = λ w job. stays_by w job.row (sits_shown plan frame window number p keys f w.seat job.row job.sits) job.job (key_cases (key_at w.seat) key);
     jobs = λ j w e.
         let job = lists.jobs j w e in
@@ -123,6 +142,13 @@ module _ (plan : Plan) (frame : CallFrame) (window number : ℕ) (p q : Pool Row
     keeps = λ table request answers of apart agree hear. keeps table request answers of apart agree hear;
   }
     where
+      differ : DifferInListed (seated p keys) (seated q keys)
+      differ =
+          let s = split_rows p q keys place key row next at f.apart is rewrites.changes in
+          subst (λ rows. DifferInListed rows (seated q keys)) (sym s.2)
+          (subst (λ rows. DifferInListed (s.0 ++ record { key = key; row = row } ∷ s.1) rows) (sym s.3)
+          (differ_one s.0 (record { key = key; row = row }) (record { key = key; row = next }) s.1 refl (record { graph = lists.graph; attempts = lists.differs })))
+
       plan_is : row.graph.plan ≡ plan
       plan_is = (f.rows key row is).0
 

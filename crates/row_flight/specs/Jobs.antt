@@ -1,5 +1,5 @@
 -- Calls that are listed.
-use Rattle.std.specs.Prelude.{◌≡◌, ◌<◌, ℕ, suc, true, false, List, ◌++◌, length, map, Some, slice_get}
+use Rattle.std.specs.Prelude.{◌≡◌, ◌<◌, ℕ, suc, true, false, List, [], ◌∷◌, ◌++◌, length, map, Some, slice_get}
 use Rattle.sp_model.specs.RowOf.{columns_named}
 use Rattle.sp_model.specs.Settling.{Answers}
 use Rattle.sp_model.specs.declared.declaration.TableDecl.{TableDecl}
@@ -11,6 +11,7 @@ use Rattle.scan_laws.specs.Scans.{AllAgree}
 use Rattle.hydrate_graph.specs.Graphs.{Plan}
 use Rattle.row_pool.specs.Pools.{Pool, shown}
 use Rattle.row_pool.specs.declared.key.Key.{Key}
+use Rattle.row_flight.specs.Attempts.{listed_attempt}
 use Rattle.row_flight.specs.Flying.{InFlight, Seated, IsOf, Sits, key_at, rows_of}
 use Rattle.row_flight.specs.Hearing.{AllHear, RowHears, RowGoes, Keeps}
 use Rattle.row_flight.specs.Pooled.{seated, IsSound, IsFlight}
@@ -51,6 +52,16 @@ AreListed row = (k : ℕ) → k < length row.graph.plan.functions → is_unliste
 abbrev pub IsAllListed : InFlight → Type 0
 IsAllListed f = (place : ℕ) (s : Seated) → slice_get f.rows place ≡ Some s → AreListed s.row
 
+-- rows whose calls differ at most in whether they are listed
+pub record DiffersInListed (old new : RowCalls) : Type 0 where
+  pub graph : new.graph ≡ old.graph
+  pub attempts : (k : ℕ) → listed_attempt (attempt_of new k) ≡ listed_attempt (attempt_of old k)
+
+abbrev pub DifferInListed : List Seated → List Seated → Type 0
+DifferInListed [] [] = Unit {0}
+DifferInListed (s ∷ ss) (t ∷ ts) = (t.key ≡ s.key) × DiffersInListed s.row t.row × DifferInListed ss ts
+DifferInListed _ _ = ⊥
+
 -- some more calls of a row are listed, and come to the end of a list
 pub record RowLists (frame : CallFrame) (scan : ℕ) (key : Key) (old new : RowCalls) (before after : List Wanted) : Type 0 where
   pub more : List Wanted
@@ -58,6 +69,7 @@ pub record RowLists (frame : CallFrame) (scan : ℕ) (key : Key) (old new : RowC
   pub graph : new.graph ≡ old.graph
   pub sound : IsRow new
   pub stays : (k : ℕ) → is_open old k ≡ true → attempt_of new k ≡ attempt_of old k
+  pub differs : (k : ℕ) → listed_attempt (attempt_of new k) ≡ listed_attempt (attempt_of old k)
   pub jobs : (place : ℕ) (w : Wanted) → slice_get more place ≡ Some w → IsRowJob frame scan key new w
   pub keeps : (table : TableDecl) (request : ScanRequest) (answers : Answers) → frame.table ≡ table.name → old.graph.plan.functions ≡ table.functions → old.graph.plan.columns ≡ columns_named request.columns table.columns
       → IsSound old.graph.plan → AreApart table → RowAgrees table answers (flight_row old) → RowHears table answers old → RowGoes table request answers old new (made_of more)
@@ -69,6 +81,7 @@ pub record Lists (scan : ℕ) (old new : InFlight) (before after : List Wanted) 
   pub plan : new.plan ≡ old.plan
   pub frame : new.frame ≡ old.frame
   pub window : new.window ≡ old.window
+  pub differ : DifferInListed old.rows new.rows
   pub stays : (w : Wanted) → IsJobOf scan old w → IsJobOf scan new w
   pub jobs : (place : ℕ) (w : Wanted) → slice_get more place ≡ Some w → IsJobOf scan new w
   pub keeps : (table : TableDecl) (request : ScanRequest) (answers : Answers) → IsOf table request old → AreApart table → AllAgree table answers (rows_of old) → AllHear table answers old.rows

@@ -18,10 +18,9 @@ ghost use Rattle.row_flight.specs.Jobs.{AreListed, IsAllListed, RowLists, Lists,
 ghost use Rattle.row_flight.specs.Pooled.{Rewrites, RowsShown, IsFlight};
 ghost use Rattle.row_flight.specs.Rows.{is_open, row_hears, attempt_of, IsRow, IsPlaced};
 ghost use Rattle.row_flight.specs.declared.row.RowCalls.{RowCalls};
-ghost use Rattle.row_flight.specs.declared.frame.Taken.TheVariants as taken;
 
 use crate::dues::sooner;
-use crate::frame::{CallFrame, JobList, Taken};
+use crate::frame::{CallFrame, JobList};
 use crate::row::RowCalls;
 use hydrate_graph::{RowGraph, RowPlan};
 use row_pool::{Key, Pool};
@@ -194,7 +193,7 @@ impl Flight {
     }
 
     /// Whether a call is waited for at a seat, and this piece of it is next.
-    fn awaits(
+    pub fn awaits(
         &self,
         alloc: Global,
         seat: Seat,
@@ -222,12 +221,14 @@ impl Flight {
         }
     }
 
-    /// Takes in a piece of the call that is waited for at a seat.
-    fn hear(&mut self, alloc: Global, seat: Seat, piece: Piece, tick: u64) -> Result<(), Memory>
+    /// Takes in a piece of the call that is waited for at a seat, at this tick: the item is taken, the function is asked again after its
+    /// delay, or what it gives is settled. For want of memory nothing changes.
+    pub fn hear(&mut self, alloc: Global, seat: Seat, piece: Piece, tick: u64) -> Result<(), Memory>
         requires open { (row : RowCalls) × Sits self.old seat row × (is_open row seat.function ≡ true) }
         requires sound { IsSoundPiece piece }
         ensures ok { OnOk result (self.new ≡ heard_at self.old seat piece tick) }
         ensures err { OnErr result (self.new ≡ self.old) }
+        // Where this is a piece of what is answered, the rows go on agreeing with it.
         ensures keeps { (table : TableDecl) (request : ScanRequest) (answers : Answers) (asked : CallKey) → IsOf table request self.old → AreApart table → AllAgree table answers (rows_of self.old) → AllHear table answers self.old.rows
             → IsAwaited self.old seat asked piece → IsPieceOfSeen (answers asked.call asked.attempt) piece → OnOk result (Keeps table request answers self.old.rows self.new.rows []) }
     {
@@ -240,35 +241,6 @@ impl Flight {
             tick,
         )?;
         Ok(())
-    }
-
-    /// Takes a piece that was told of a call, at this tick, for the seat that waits for it.
-    pub fn answered(
-        &mut self,
-        alloc: Global,
-        seat: Seat,
-        asked: &CallKey,
-        piece: Piece,
-        tick: u64,
-    ) -> Taken
-        requires { IsSoundPiece piece }
-        ensures used { result ≡ taken.Used → IsAwaited self.old seat asked.now piece }
-        ensures late { result ≡ taken.Late → IsAwaited self.old seat asked.now piece → ⊥ }
-        // The item is taken, the function is asked again after its delay, or what it gives is settled.
-        ensures heard { result ≡ taken.Used → self.new ≡ heard_at self.old seat piece tick }
-        ensures unchanged { (result ≡ taken.Used → ⊥) → self.new ≡ self.old }
-        // Where this is a piece of what is answered, the rows go on agreeing with it.
-        ensures keeps { (table : TableDecl) (request : ScanRequest) (answers : Answers) → IsOf table request self.old → AreApart table → AllAgree table answers (rows_of self.old) → AllHear table answers self.old.rows
-            → IsPieceOfSeen (answers asked.now.call asked.now.attempt) piece → Keeps table request answers self.old.rows self.new.rows [] }
-    {
-        match self.awaits(alloc, seat, asked, &piece) {
-            Err(_) => Taken::Memory,
-            Ok(false) => Taken::Late,
-            Ok(true) => match self.hear(alloc, seat, piece, tick) {
-                Ok(()) => Taken::Used,
-                Err(_) => Taken::Memory,
-            },
-        }
     }
 }
 

@@ -2,7 +2,7 @@
 //! them.
 //!
 //! A `Flight` holds the rows of the first undecided items, in order, in a pool whose slots are taken at the beginning. It lists each
-//! call once that is ready (`list`), takes the pieces of the calls by their seats, in any order (`answered`), and lends its first row
+//! call once that is ready (`list`), takes the pieces of the calls by their seats, in any order (`awaits`, `hear`), and lends its first row
 //! (`first`), of which `hydrate_graph` says how it ends. Begin with `flight.rt` and `specs/Flying.antt`; `specs/Attempts.antt` says
 //! what a piece makes of a call, `specs/Laws.antt` what all this means for a scan.
 #![tactic(auto)]
