@@ -7,7 +7,7 @@ use crate::row::RowCalls;
 use hydrate_graph::ReadyList;
 
 /// The smaller of two ticks, where there are two.
-pub(crate) fn sooner(left: Option<u64>, right: Option<u64>) -> Option<u64>
+pub fn sooner(left: Option<u64>, right: Option<u64>) -> Option<u64>
     ensures { result ≡ sooner left right }
 {
     match (left, right) {

@@ -18,6 +18,7 @@ mod row;
 
 pub use attempt::Attempt;
 pub use attempts::Attempts;
+pub use dues::sooner;
 pub use flight::Flight;
 pub use frame::{CallFrame, JobList, Taken, Wanted};
 pub use laws::flight_goes_on;

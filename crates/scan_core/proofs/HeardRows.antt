@@ -21,7 +21,7 @@ heard_item : (seat : Seat) (p : Piece) (tick : ℕ) (s : Seated) (b : Bool) → 
 heard_item seat p tick s true = settled_item s.row.graph seat.function _
 heard_item seat p tick s false = refl
 
-heard_items : (seat : Seat) (p : Piece) (tick : ℕ) (rows : List Seated) → items_of (rows_in (map (hears_at seat p tick) rows)) ≡ items_of (rows_in rows)
+pub heard_items : (seat : Seat) (p : Piece) (tick : ℕ) (rows : List Seated) → items_of (rows_in (map (hears_at seat p tick) rows)) ≡ items_of (rows_in rows)
 heard_items seat p tick [] = refl
 heard_items seat p tick (s ∷ rows) = ap (λ x. x ∷ items_of (rows_in (map (hears_at seat p tick) rows))) (heard_item seat p tick s (is_at s.key seat)) ∙ ap (λ xs. s.row.graph.item ∷ xs) (heard_items seat p tick rows)
 

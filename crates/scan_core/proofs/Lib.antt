@@ -8,3 +8,6 @@ pub mod Weighing
 pub mod Heard
 pub mod Listed
 pub mod HeardRows
+pub mod Going
+pub mod Seats
+pub mod Waits

@@ -1,6 +1,8 @@
 pub mod Advances
 pub mod Calls
 pub mod Courses
+pub mod Dues
+pub mod Going
 pub mod Next
 pub mod Weights
 pub mod Hearing

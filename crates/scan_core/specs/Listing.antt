@@ -1,11 +1,14 @@
 -- Calls of a scan that are listed.
-use Rattle.std.specs.Prelude.{◌≡◌, ℕ, true, List, [], ◌∷◌, ◌++◌}
+use Rattle.std.specs.Prelude.{◌≡◌, ℕ, true, false, List, [], ◌∷◌, ◌++◌, Some, None}
 use Rattle.sp_model.specs.declared.scan.Access.{Access}
 use Rattle.sp_model.specs.declared.scan.Access.TheVariants.{Get, List as OfList, Parents}
+use Rattle.row_flight.specs.Jobs.{Lists}
 use Rattle.row_flight.specs.declared.frame.Wanted.{Wanted}
 use Rattle.scan_core.specs.declared.calls.ItemsCall.{ItemsCall}
 use Rattle.scan_core.specs.declared.calls.OpenCall.{OpenCall}
 use Rattle.scan_core.specs.declared.calls.ParentsCall.{ParentsCall}
+use Rattle.scan_core.specs.declared.course.Course.{Course}
+use Rattle.scan_core.specs.declared.scope.ScanScope.{ScanScope}
 
 -- the numbers of a call's slot and function: 64 is the get, list or parents call, 65 a child list
 abbrev pub items_slot : Access → ℕ
@@ -32,3 +35,18 @@ items_listed c = record c { call = record c.call { listed = true } }
 
 abbrev pub parents_listed : {X : Type 0} → ParentsCall X → ParentsCall X
 parents_listed c = record c { call = record c.call { listed = true } }
+
+-- The call whose items are asked for is listed, unless it was: the get, list or child list, and where none is open the parents call.
+pub data CallLists {X : Type 0} (scope : ScanScope) (scan : ℕ) (old new : Course X) (before after : List Wanted) : Type 0 where
+  ListsNone : new ≡ old → after ≡ before → CallLists scope scan old new before after
+  ListsItems : (i : ItemsCall X) → old.items ≡ Some i → i.call.listed ≡ false → new ≡ record old { items = Some (items_listed i) }
+      → IsPut i.call scan (items_slot scope.request.access) (items_function scope.request.access) before after → CallLists scope scan old new before after
+  ListsParents : (o : ParentsCall X) → old.items ≡ None → old.parents ≡ Some o → o.call.listed ≡ false → new ≡ record old { parents = Some (parents_listed o) } → IsPut o.call scan 0 64 before after → CallLists scope scan old new before after
+
+-- then those of the rows in flight
+pub record CourseLists {X : Type 0} (scope : ScanScope) (scan : ℕ) (old new : Course X) (before after : List Wanted) : Type 0 where
+  pub mid : Course X
+  pub jobs : List Wanted
+  pub call : CallLists scope scan old mid before jobs
+  pub rows : Lists scan mid.flight new.flight jobs after
+  pub rest : new ≡ record mid { flight = new.flight }

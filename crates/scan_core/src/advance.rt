@@ -1,6 +1,7 @@
 ghost use Rattle.std.specs.Prelude.{◌≡◌, Option, None, OnOk, OnErr};
 ghost use Rattle.scan_core.specs.Advances.{Step, Advances};
 ghost use Rattle.scan_core.specs.Courses.{state_of, table_of, IsScope, IsCourse};
+ghost use Rattle.scan_core.specs.Going.{GoesOn};
 ghost use Rattle.scan_core.specs.Next.{IsNext, IsStill};
 ghost use Rattle.scan_core.specs.declared.step.NextStep.TheVariants as steps;
 
@@ -13,6 +14,7 @@ use std::alloc::Global;
 
 impl<W: World> Course<W> {
     /// Takes the next step.
+    #[tactic(auto, using(crate::proofs::Going::goes_kept))]
     fn go(&mut self, alloc: Global, scope: &ScanScope, step: NextStep) -> Result<(), Memory>
         requires form { IsCourse scope.now self.old }
         requires sources { IsScope scope.now }
@@ -21,6 +23,7 @@ impl<W: World> Course<W> {
         requires on { step ≡ steps.Wait → ⊥ }
         ensures state { OnOk result (Step (table_of scope.now) scope.now.request scope.now.window (state_of scope.now self.old) (state_of scope.now self.new)) }
         ensures form { IsCourse scope.now self.new }
+        ensures goes { GoesOn self.old self.new }
         ensures err { OnErr result (state_of scope.now self.new ≡ state_of scope.now self.old) }
     {
         match step {
@@ -54,6 +57,8 @@ impl<W: World> Course<W> {
         requires sources { IsScope scope.now }
         ensures form { IsCourse scope.now self.new }
         ensures advances { Advances (table_of scope.now) scope.now.request scope.now.window (state_of scope.now self.old) (state_of scope.now self.new) }
+        // Its rows stay as they are, but for those that left and those of items that waited.
+        ensures goes { GoesOn self.old self.new }
         ensures still { OnOk result (self.new.end ≡ None → IsStill (table_of scope.now) scope.now.request scope.now.window (state_of scope.now self.new)) }
     {
         'steps: while self.end.is_none() {

@@ -64,7 +64,7 @@ impl<W: World> Course<W> {
     }
 
     /// A scan of which nothing is listed and nothing came. All slots of its rows are taken here.
-    pub(crate) fn begin(
+    pub fn begin(
         alloc: Global,
         scope: &ScanScope,
         plan: Arc<RowPlan>,
@@ -76,6 +76,8 @@ impl<W: World> Course<W> {
         requires columns { (arc_value plan).columns ≡ columns_named scope.now.request.columns (table_of scope.now).columns }
         ensures state { IfOk result (λ c. state_of scope.now c ≡ begin_of (table_of scope.now) scope.now.request) }
         ensures form { IfOk result (IsCourse scope.now) }
+        ensures flight { IfOk result (λ c. c.flight ≡ record { plan = arc_value plan; frame = record { connection = scope.now.request.connection; version = scope.now.version; table = (table_of scope.now).name }; window = scope.now.window; rows = [] }) }
+        ensures end { IfOk result (λ c. c.end ≡ None) }
     {
         let frame = CallFrame {
             connection: scope.request.connection.copy(alloc)?,

@@ -6,6 +6,7 @@ ghost use Rattle.scan_laws.specs.States.{FlightRow};
 ghost use Rattle.scan_core.specs.Advances.{row_now, Decides};
 ghost use Rattle.scan_core.specs.Calls.{passed_front, passed_items};
 ghost use Rattle.scan_core.specs.Courses.{state_of, table_of, IsCourse, entry_now, end_if, went_on, Grows};
+ghost use Rattle.scan_core.specs.Going.{GoesOn};
 ghost use Rattle.scan_core.specs.Next.{FirstIsDecided};
 ghost use Rattle.scan_core.specs.declared.calls.ItemsCall.{ItemsCall};
 
@@ -112,6 +113,7 @@ impl<W: World> Course<W> {
         requires seen { (row : FlightRow) (rest : List FlightRow) → rows_of self.old.flight ≡ row ∷ rest → row_now (table_of scope.now) scope.now.request row ≡ Some (rows.Whole cells) }
         ensures state { OnOk result (Decides (table_of scope.now) scope.now.request (state_of scope.now self.old) (state_of scope.now self.new)) }
         ensures form { IsCourse scope.now self.new }
+        ensures goes { GoesOn self.old self.new }
         ensures err { OnErr result (self.new ≡ self.old) }
     {
         let entry = Entry {
@@ -139,6 +141,7 @@ impl<W: World> Course<W> {
         requires seen { (row : FlightRow) (rest : List FlightRow) → rows_of self.old.flight ≡ row ∷ rest → row_now (table_of scope.now) scope.now.request row ≡ Some (rows.Broken column cause) }
         ensures state { OnOk result (Decides (table_of scope.now) scope.now.request (state_of scope.now self.old) (state_of scope.now self.new)) }
         ensures form { IsCourse scope.now self.new }
+        ensures kept { (self.new.flight ≡ self.old.flight) × (self.new.waiting ≡ self.old.waiting) }
         ensures err { OnErr result (self.new ≡ self.old) }
     {
         let Some(row) = self.walk.items.checked_add(1) else {
@@ -153,12 +156,14 @@ impl<W: World> Course<W> {
     }
 
     /// The first row in flight is kept or left out, or fails the scan.
+    #[tactic(auto, using(crate::proofs::Going::goes_kept))]
     pub(crate) fn decide(&mut self, alloc: Global, scope: &ScanScope) -> Result<(), Memory>
         requires form { IsCourse scope.now self.old }
         requires going { self.old.end ≡ None }
         requires first { FirstIsDecided (table_of scope.now) scope.now.request (state_of scope.now self.old) }
         ensures state { OnOk result (Decides (table_of scope.now) scope.now.request (state_of scope.now self.old) (state_of scope.now self.new)) }
         ensures form { IsCourse scope.now self.new }
+        ensures goes { GoesOn self.old self.new }
         ensures err { OnErr result (self.new ≡ self.old) }
     {
         match self.first_row(alloc, scope) {

@@ -7,7 +7,7 @@ ghost use Rattle.scan_laws.specs.States.{Outer, Inner};
 ghost use Rattle.scan_core.specs.Courses.{state_of, IsCourse};
 ghost use Rattle.scan_core.specs.declared.calls.ItemsCall.{ItemsCall as Items};
 ghost use Rattle.scan_core.specs.declared.calls.ParentsCall.{ParentsCall as Parents};
-ghost use Rattle.scan_core.specs.Hearing.{anew, ended_at, open_heard, items_heard, handed_on, MayBeginAnew, inner_heard, InnerTakes, outer_heard, OuterTakes};
+ghost use Rattle.scan_core.specs.Hearing.{anew, ended_at, open_heard, items_heard, handed_on, MayBeginAnew, inner_heard, InnerTakes, outer_heard, OuterTakes, IsUnchanged};
 
 use crate::calls::{ItemsCall, OpenCall, ParentsCall};
 use crate::course::Course;
@@ -69,6 +69,7 @@ impl<W: World> OpenCall<W> {
         requires drained { self.old.stream.waiting ≡ [] }
         ensures used { result ≡ taken.Used → (self.new ≡ open_heard self.old piece.1 tick) × (waiting.new.items ≡ waiting.old.items ++ handed_on self.old.stream piece.1) × (self.old.listed ≡ true) × (self.old.stream.ending ≡ None) × (is_out (anew self.old.stream piece.1) piece.1 ≡ true → ⊥) }
         ensures late { result ≡ taken.Late → (self.new ≡ self.old) × (waiting.new.items ≡ waiting.old.items) }
+        ensures exact { result ≡ taken.Late → self.old.listed ≡ true → is_out (anew self.old.stream piece.1) piece.1 ≡ true }
         // Where memory is wanting the call may have begun anew.
         ensures memory { result ≡ taken.Memory → MayBeginAnew self.old piece.1 self.new × (waiting.new.items ≡ waiting.old.items) }
     {
@@ -99,6 +100,7 @@ impl<W: World> ItemsCall<W> {
         requires drained { self.old.call.stream.waiting ≡ [] }
         ensures used { result ≡ taken.Used → (self.new ≡ items_heard self.old piece.1 tick) × (waiting.new.items ≡ waiting.old.items ++ handed_on self.old.call.stream piece.1) × (self.old.call.listed ≡ true) × (self.old.call.stream.ending ≡ None) × (is_out (anew self.old.call.stream piece.1) piece.1 ≡ true → ⊥) }
         ensures late { result ≡ taken.Late → (self.new ≡ self.old) × (waiting.new.items ≡ waiting.old.items) }
+        ensures exact { result ≡ taken.Late → self.old.call.listed ≡ true → is_out (anew self.old.call.stream piece.1) piece.1 ≡ true }
         ensures memory { result ≡ taken.Memory → (self.new.entered ≡ self.old.entered) × MayBeginAnew self.old.call piece.1 self.new.call × (waiting.new.items ≡ waiting.old.items) }
     {
         self.call.hear(waiting, piece, tick)
@@ -111,6 +113,7 @@ impl<W: World> ParentsCall<W> {
         requires drained { self.old.call.stream.waiting ≡ [] }
         ensures used { result ≡ taken.Used → (self.new.call ≡ open_heard self.old.call piece.1 tick) × (self.new.waiting.items ≡ self.old.waiting.items ++ handed_on self.old.call.stream piece.1) × (self.old.call.listed ≡ true) × (self.old.call.stream.ending ≡ None) × (is_out (anew self.old.call.stream piece.1) piece.1 ≡ true → ⊥) }
         ensures late { result ≡ taken.Late → (self.new.call ≡ self.old.call) × (self.new.waiting.items ≡ self.old.waiting.items) }
+        ensures exact { result ≡ taken.Late → self.old.call.listed ≡ true → is_out (anew self.old.call.stream piece.1) piece.1 ≡ true }
         ensures memory { result ≡ taken.Memory → MayBeginAnew self.old.call piece.1 self.new.call × (self.new.waiting.items ≡ self.old.waiting.items) }
     {
         self.call.hear(&mut self.waiting, piece, tick)
@@ -128,6 +131,10 @@ impl<W: World> Course<W> {
         requires form { IsCourse scope.now self.old }
         requires asked { (i : Items _) → self.old.items ≡ Some i → piece.0 ≡ asks.Call i.call.stream.call }
         ensures used { result ≡ taken.Used → (i : Inner) × ((state_of scope.now self.old).inner ≡ Some i) × (state_of scope.now self.new ≡ inner_heard (state_of scope.now self.old) i piece.1) × InnerTakes (state_of scope.now self.old) i piece.1 }
+        ensures next { result ≡ taken.Used → (i : Items _) → self.old.items ≡ Some i → (i.call.listed ≡ true) × (is_out (anew i.call.stream piece.1) piece.1 ≡ true → ⊥) }
+        ensures exact { result ≡ taken.Late → (i : Items _) → self.old.items ≡ Some i → i.call.listed ≡ true → is_out (anew i.call.stream piece.1) piece.1 ≡ true }
+        ensures late { result ≡ taken.Late → IsUnchanged self.old self.new }
+        ensures rest { (self.new.flight ≡ self.old.flight) × (self.new.end ≡ self.old.end) }
         ensures kept { (result ≡ taken.Used → ⊥) → state_of scope.now self.new ≡ state_of scope.now self.old }
         ensures form { IsCourse scope.now self.new }
     {
@@ -152,6 +159,10 @@ impl<W: World> Course<W> {
         requires form { IsCourse scope.now self.old }
         requires asked { (o : Parents _) → self.old.parents ≡ Some o → piece.0 ≡ asks.Call o.call.stream.call }
         ensures used { result ≡ taken.Used → (o : Outer) × ((state_of scope.now self.old).outer ≡ Some o) × (state_of scope.now self.new ≡ outer_heard (state_of scope.now self.old) o piece.1) × OuterTakes o piece.1 }
+        ensures next { result ≡ taken.Used → (o : Parents _) → self.old.parents ≡ Some o → (o.call.listed ≡ true) × (is_out (anew o.call.stream piece.1) piece.1 ≡ true → ⊥) }
+        ensures exact { result ≡ taken.Late → (o : Parents _) → self.old.parents ≡ Some o → o.call.listed ≡ true → is_out (anew o.call.stream piece.1) piece.1 ≡ true }
+        ensures late { result ≡ taken.Late → IsUnchanged self.old self.new }
+        ensures rest { (self.new.flight ≡ self.old.flight) × (self.new.end ≡ self.old.end) }
         ensures kept { (result ≡ taken.Used → ⊥) → state_of scope.now self.new ≡ state_of scope.now self.old }
         ensures form { IsCourse scope.now self.new }
     {

@@ -6,10 +6,12 @@
 #![tactic(auto)]
 
 mod advance;
+mod answering;
 mod beginning;
 mod calls;
 mod course;
 mod deciding;
+mod dues;
 mod hearing;
 mod laws;
 mod listing;
@@ -20,8 +22,15 @@ mod next;
 mod refusing;
 mod rows;
 mod scope;
+mod seat;
 mod sources;
 mod step;
 mod verdicts;
 
-pub use laws::{parents_piece_is_taken_in, piece_is_taken_in, scan_goes_on};
+pub use calls::{Entry, ItemsCall, OpenCall, ParentsCall};
+pub use course::{Course, CourseEnd};
+pub use laws::{
+    parents_piece_is_taken_in, piece_is_taken_in, scan_goes_on, still_scan_is_open,
+};
+pub use scope::{CallSource, ScanScope};
+pub use seat::SeatOf;

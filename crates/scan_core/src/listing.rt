@@ -1,8 +1,6 @@
-ghost use Rattle.std.specs.Prelude.{◌≡◌, ◌∷◌, ◌++◌, [], true, false, Option, Some, None, IfOk, OnOk, OnErr};
-ghost use Rattle.scan_laws.specs.Steps.{inner_listed, outer_listed};
-ghost use Rattle.scan_core.specs.Calls.{inner_of, outer_of};
-ghost use Rattle.scan_core.specs.Courses.{state_of, IsCourse};
-ghost use Rattle.scan_core.specs.Listing.{items_slot, items_function, items_listed, parents_listed, IsPut};
+ghost use Rattle.std.specs.Prelude.{◌≡◌, ◌∷◌, ◌++◌, [], true, false, Option, Some, None, IsSome, IfOk, OnOk, OnErr};
+ghost use Rattle.scan_core.specs.Courses.{IsCourse};
+ghost use Rattle.scan_core.specs.Listing.{items_slot, items_function, items_listed, parents_listed, IsPut, CallLists, CourseLists};
 ghost use Rattle.scan_core.specs.declared.calls.ItemsCall.{ItemsCall as Items};
 ghost use Rattle.scan_core.specs.declared.calls.ParentsCall.{ParentsCall as Parents};
 
@@ -15,7 +13,8 @@ use sp_value::{Memory, TryCopy};
 use sp_world::World;
 use std::alloc::Global;
 
-fn items_slot(access: Access) -> usize
+/// The slot of the get, list or child list.
+pub(crate) fn items_slot(access: Access) -> usize
     ensures { result ≡ items_slot access }
 {
     match access {
@@ -24,7 +23,8 @@ fn items_slot(access: Access) -> usize
     }
 }
 
-fn items_function(access: Access) -> u32
+/// The number of its function in a seat.
+pub(crate) fn items_function(access: Access) -> u32
     ensures { result ≡ items_function access }
 {
     match access {
@@ -111,7 +111,7 @@ impl<W: World> ParentsCall<W> {
 
 impl<W: World> Course<W> {
     /// Lists the present attempt of the get, list or child list, unless it is listed.
-    pub(crate) fn list_items(
+    fn list_items(
         &mut self,
         alloc: Global,
         scope: &ScanScope,
@@ -119,11 +119,8 @@ impl<W: World> Course<W> {
         into: &mut JobList,
     ) -> Result<(), Memory>
         requires { IsCourse scope.now self.old }
-        ensures lists { OnOk result ((i : Items _) → self.old.items ≡ Some i → i.call.listed ≡ false →
-            (state_of scope.now self.new ≡ inner_listed (state_of scope.now self.old) (inner_of scope.now.items self.old.walk i)) × IsPut i.call scan (items_slot scope.now.request.access) (items_function scope.now.request.access) into.old into.new) }
-        ensures listed { OnOk result ((i : Items _) → self.old.items ≡ Some i → i.call.listed ≡ true → (self.new ≡ self.old) × (into.new ≡ into.old)) }
-        ensures absent { OnOk result (self.old.items ≡ None → (self.new ≡ self.old) × (into.new ≡ into.old)) }
-        ensures err { OnErr result ((self.new ≡ self.old) × (into.new ≡ into.old)) }
+        ensures lists { CallLists scope.now scan self.old self.new into.old into.new }
+        ensures listed { OnOk result ((i : Items _) → self.new.items ≡ Some i → i.call.listed ≡ true) }
         ensures form { IsCourse scope.now self.new }
     {
         let access = scope.request.access;
@@ -138,8 +135,31 @@ impl<W: World> Course<W> {
         Ok(())
     }
 
-    /// Lists the present attempt of the parents call, unless it is listed.
-    pub(crate) fn list_parents(
+    /// Lists the present attempt of the parents call, unless it is listed. No list is open.
+    fn list_parents(
+        &mut self,
+        alloc: Global,
+        scope: &ScanScope,
+        scan: u64,
+        into: &mut JobList,
+    ) -> Result<(), Memory>
+        requires form { IsCourse scope.now self.old }
+        requires closed { self.old.items ≡ None }
+        ensures lists { CallLists scope.now scan self.old self.new into.old into.new }
+        ensures listed { OnOk result ((o : Parents _) → self.new.parents ≡ Some o → o.call.listed ≡ true) }
+        ensures form { IsCourse scope.now self.new }
+    {
+        let Some(call) = &mut self.parents else {
+            return Ok(());
+        };
+        let Ok(()) = call.list(alloc, scan, into) else {
+            return Err(Memory);
+        };
+        Ok(())
+    }
+
+    /// Lists the call whose items are asked for: the get, list or child list, and where no list is open the parents call.
+    fn list_call(
         &mut self,
         alloc: Global,
         scope: &ScanScope,
@@ -147,17 +167,36 @@ impl<W: World> Course<W> {
         into: &mut JobList,
     ) -> Result<(), Memory>
         requires { IsCourse scope.now self.old }
-        ensures lists { OnOk result ((o : Parents _) → self.old.parents ≡ Some o → o.call.listed ≡ false →
-            (state_of scope.now self.new ≡ outer_listed (state_of scope.now self.old) (outer_of o)) × IsPut o.call scan 0 64 into.old into.new) }
-        ensures listed { OnOk result ((o : Parents _) → self.old.parents ≡ Some o → o.call.listed ≡ true → (self.new ≡ self.old) × (into.new ≡ into.old)) }
-        ensures absent { OnOk result (self.old.parents ≡ None → (self.new ≡ self.old) × (into.new ≡ into.old)) }
-        ensures err { OnErr result ((self.new ≡ self.old) × (into.new ≡ into.old)) }
+        ensures lists { CallLists scope.now scan self.old self.new into.old into.new }
         ensures form { IsCourse scope.now self.new }
     {
-        let Some(call) = &mut self.parents else {
+        match &self.items {
+            Some(_) => self.list_items(alloc, scope, scan, into),
+            None => self.list_parents(alloc, scope, scan, into),
+        }
+    }
+
+    /// Puts each call that is ready and wasn't listed before at the end of a list, as a call of the scan of this number. Nothing is
+    /// listed once the scan is decided. For want of memory it stops with those that it listed.
+    pub fn list(
+        &mut self,
+        alloc: Global,
+        scope: &ScanScope,
+        scan: u64,
+        into: &mut JobList,
+    ) -> Result<(), Memory>
+        requires { IsCourse scope.now self.old }
+        ensures lists { CourseLists scope.now scan self.old self.new into.old into.new }
+        ensures form { IsCourse scope.now self.new }
+        ensures decided { IsSome self.old.end → (self.new ≡ self.old) × (into.new ≡ into.old) }
+    {
+        if self.end.is_some() {
             return Ok(());
+        }
+        let Ok(()) = self.list_call(alloc, scope, scan, into) else {
+            return Err(Memory);
         };
-        let Ok(()) = call.list(alloc, scan, into) else {
+        let Ok(()) = self.flight.list(alloc, scan, into) else {
             return Err(Memory);
         };
         Ok(())

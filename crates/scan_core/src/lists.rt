@@ -88,6 +88,7 @@ impl<W: World> Course<W> {
         requires closed { self.old.items ≡ None }
         ensures state { OnOk result (ChildBegins (table_of scope.now) scope.now.request (state_of scope.now self.old) (state_of scope.now self.new)) }
         ensures form { IsCourse scope.now self.new }
+        ensures kept { (self.new.flight ≡ self.old.flight) × (self.new.waiting ≡ self.old.waiting) }
         ensures err { OnErr result (self.new ≡ self.old) }
     {
         let parts = ListParts::of(alloc, scope)?;

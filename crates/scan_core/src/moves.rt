@@ -5,6 +5,7 @@ ghost use Rattle.scan_laws.specs.States.{Inner, Outer};
 ghost use Rattle.scan_laws.specs.Steps.{inner_accepted, inner_again, outer_accepted, outer_again, finished, ended_so};
 ghost use Rattle.sp_model.specs.declared.outcome.Walk.TheVariants.{Failed};
 ghost use Rattle.scan_core.specs.Advances.{Fills};
+ghost use Rattle.scan_core.specs.Going.{GoesOn};
 ghost use Rattle.scan_core.specs.Next.{HasItem};
 ghost use Rattle.scan_core.specs.Calls.{entry_view};
 ghost use Rattle.scan_core.specs.Courses.{undecided, state_of, table_of, IsScope, IsCourse};
@@ -38,6 +39,7 @@ impl<W: World> Course<W> {
         requires { IsCourse scope.now self.old }
         ensures state { state_of scope.now self.new ≡ inner_accepted (state_of scope.now self.old) }
         ensures form { IsCourse scope.now self.new }
+        ensures kept { (self.new.flight ≡ self.old.flight) × (self.new.waiting ≡ self.old.waiting) }
     {
         self.before = self.undecided_len(scope);
         self.items = None;
@@ -55,6 +57,7 @@ impl<W: World> Course<W> {
         requires decided { undecided self.old ≡ [] }
         ensures state { OnOk result ((i : Inner) → (state_of scope.now self.old).inner ≡ Some i → state_of scope.now self.new ≡ inner_again (state_of scope.now self.old) i) }
         ensures form { IsCourse scope.now self.new }
+        ensures kept { (self.new.flight ≡ self.old.flight) × (self.new.waiting ≡ self.old.waiting) }
         ensures err { OnErr result (self.new ≡ self.old) }
     {
         let generation = self.drawn.saturating_add(1);
@@ -84,6 +87,7 @@ impl<W: World> Course<W> {
         requires closed { self.old.items ≡ None }
         ensures state { OnOk result ((o : Outer) → (state_of scope.now self.old).outer ≡ Some o → state_of scope.now self.new ≡ outer_again (state_of scope.now self.old) o) }
         ensures form { IsCourse scope.now self.new }
+        ensures kept { (self.new.flight ≡ self.old.flight) × (self.new.waiting ≡ self.old.waiting) }
         ensures err { OnErr result (self.new ≡ self.old) }
     {
         let generation = self.drawn.saturating_add(1);
@@ -108,6 +112,7 @@ impl<W: World> Course<W> {
         ensures err { OnErr result (state_of scope.now self.new ≡ state_of scope.now self.old) }
         ensures form { IsCourse scope.now self.new }
         ensures same { (self.new.parents ≡ self.old.parents) × (self.new.items ≡ self.old.items) }
+        ensures goes { GoesOn self.old self.new }
     {
         let Some(item) = self.waiting.pop_front() else {
             return Ok(());
@@ -126,6 +131,7 @@ impl<W: World> Course<W> {
         requires form { IsCourse scope.now self.old }
         ensures state { OnOk result (state_of scope.now self.new ≡ ended_so (state_of scope.now self.old) (Failed (suc self.old.walk.items) None cause)) }
         ensures form { IsCourse scope.now self.new }
+        ensures kept { (self.new.flight ≡ self.old.flight) × (self.new.waiting ≡ self.old.waiting) }
         ensures err { OnErr result (self.new ≡ self.old) }
     {
         let Some(row) = self.walk.items.checked_add(1) else {
@@ -144,6 +150,7 @@ impl<W: World> Course<W> {
         requires { IsCourse scope.now self.old }
         ensures state { state_of scope.now self.new ≡ outer_accepted (state_of scope.now self.old) }
         ensures form { IsCourse scope.now self.new }
+        ensures kept { (self.new.flight ≡ self.old.flight) × (self.new.waiting ≡ self.old.waiting) }
     {
         self.parents = None;
     }
@@ -153,6 +160,7 @@ impl<W: World> Course<W> {
         requires { IsCourse scope.now self.old }
         ensures state { state_of scope.now self.new ≡ finished (state_of scope.now self.old) }
         ensures form { IsCourse scope.now self.new }
+        ensures kept { (self.new.flight ≡ self.old.flight) × (self.new.waiting ≡ self.old.waiting) }
     {
         self.end = Some(CourseEnd::Complete);
     }

@@ -44,6 +44,7 @@ impl<W: World> Course<W> {
         requires refused { (many : Bool) × (text : List ℕ) × InnerSays (state_of scope.now self.old) (Refuse text) many × AllDecided (state_of scope.now self.old) }
         ensures state { OnOk result (InnerEnds (state_of scope.now self.old) (state_of scope.now self.new)) }
         ensures form { IsCourse scope.now self.new }
+        ensures kept { (self.new.flight ≡ self.old.flight) × (self.new.waiting ≡ self.old.waiting) }
         ensures err { OnErr result (self.new ≡ self.old) }
     {
         let Some(items) = &self.items else {
@@ -64,6 +65,7 @@ impl<W: World> Course<W> {
         requires refused { InnerSays (state_of scope.now self.old) Accept true × AllDecided (state_of scope.now self.old) }
         ensures state { OnOk result (InnerEnds (state_of scope.now self.old) (state_of scope.now self.new)) }
         ensures form { IsCourse scope.now self.new }
+        ensures kept { (self.new.flight ≡ self.old.flight) × (self.new.waiting ≡ self.old.waiting) }
         ensures err { OnErr result (self.new ≡ self.old) }
     {
         let Some(items) = &self.items else {
@@ -86,6 +88,7 @@ impl<W: World> Course<W> {
         requires refused { (text : List ℕ) × OuterSays (outer_source (table_of scope.now)) (state_of scope.now self.old) (Refuse text) × ((state_of scope.now self.old).first ≡ []) }
         ensures state { OnOk result (OuterEnds (table_of scope.now) (state_of scope.now self.old) (state_of scope.now self.new)) }
         ensures form { IsCourse scope.now self.new }
+        ensures kept { (self.new.flight ≡ self.old.flight) × (self.new.waiting ≡ self.old.waiting) }
         ensures err { OnErr result (self.new ≡ self.old) }
     {
         let Some(parents) = &self.parents else {

@@ -107,7 +107,7 @@ fn items_source(alloc: Global, table: &TableDecl, access: Access) -> Result<Call
 
 impl ScanScope {
     /// What a scan of a request of a table at a version is of.
-    pub(crate) fn of(
+    pub fn of(
         alloc: Global,
         request: ScanRequest,
         table: Arc<TableDecl, Global>,

@@ -1,6 +1,7 @@
-use Rattle.std.proofs.Common.{ap, subst}
+use Rattle.std.proofs.Common.{refl, ap, subst}
 use Rattle.scan_core.proofs.Ending.{none_of}
-use Rattle.scan_core.proofs.Keeping.{advances_more}
+use Rattle.scan_core.proofs.Keeping.{advances_none, advances_more}
+use Rattle.scan_core.proofs.Going.{goes_kept, goes_then}
 use Rattle.scan_core.proofs.Weighing.{step_less}
 use Rattle.scan_core.specs.Courses.{state_of, table_of, end_view}
 use Rattle.scan_core.specs.Next.{IsNext}
@@ -21,4 +22,15 @@ steps-preserved g c = record {
   form = c.go.ensures.form;
   advances = advances_more (table_of c.args.scope.now) c.args.scope.now.request c.args.scope.now.window (state_of c.args.scope.now c.args.self.now) (state_of c.args.scope.now c.steps.self) (state_of c.args.scope.now c.go.new.self)
       c.steps.invariant.advances (ap (end_view c.steps.self.walk) (none_of c.steps.self.end c.is_none.result c.is_none.ensures c.steps-test.true)) c.in-Ok.ensures.state;
+  goes = goes_then c.args.self.now c.steps.self c.go.new.self c.steps.invariant.goes c.go.ensures.goes;
 }
+
+pub steps-init : goal.steps-init
+steps-init g c = record {
+  form = c.requires.form;
+  advances = advances_none (table_of c.args.scope.now) c.args.scope.now.request c.args.scope.now.window (state_of c.args.scope.now c.args.self.now) (state_of c.args.scope.now c.args.self.now) refl;
+  goes = goes_kept c.args.self.now c.args.self.now (refl, refl);
+}
+
+pub returns-in_default-go-clause-goes : goal.returns-in_default-go-clause-goes
+returns-in_default-go-clause-goes g c = goes_then c.args.self.now c.steps.self c.go.new.self c.steps.invariant.goes c.go.ensures.goes

@@ -1,6 +1,9 @@
-use Rattle.std.proofs.Common.{ap, inl}
+use Rattle.std.proofs.Common.{◌≡◌, true, refl, ap, inl}
 use Rattle.scan_core.proofs.Heard.{outer_state, outer_takes, outer_form, outer_kept, with_parents}
 use Rattle.scan_core.specs.Calls.{outer_of, outer_view}
+use Rattle.row_stream.specs.Streams.{is_out}
+use Rattle.scan_core.proofs.Seats.{some_same, parents_unchanged}
+use Rattle.scan_core.specs.Hearing.{anew}
 use Rattle.scan_core.proofs.course.Course.hear_parents.Goals as goal
 
 pub hear-requires-clause-drained : goal.hear-requires-clause-drained
@@ -43,3 +46,16 @@ returns-in-Memory-clause-form g c =
     let u = c.hear.ensures.memory c.in-Memory.is in
     with_parents c.args.scope.now c.args.self.now c.hear.new.self c.requires.form
     (outer_kept c.args.scope.now c.args.self.now c.in-Some.call c.hear.new.self c.args.piece.1 (c.requires.form.parents c.in-Some.call c.in-Some.is) c.in-Some.is u.1 u.0).1
+
+pub returns-in-Used-clause-next : goal.returns-in-Used-clause-next
+returns-in-Used-clause-next g c = λ e o is.
+    let u = c.hear.ensures.used c.in-Used.is in
+    some_same c.args.self.now.parents c.in-Some.call o (λ z. (z.call.listed ≡ true) × (is_out (anew z.call.stream c.args.piece.1) c.args.piece.1 ≡ true → ⊥)) c.in-Some.is is (u.2, u.4)
+
+pub returns-in-Late-clause-exact : goal.returns-in-Late-clause-exact
+returns-in-Late-clause-exact g c = λ e o is.
+    some_same c.args.self.now.parents c.in-Some.call o (λ z. z.call.listed ≡ true → is_out (anew z.call.stream c.args.piece.1) c.args.piece.1 ≡ true) c.in-Some.is is (c.hear.ensures.exact c.in-Late.is)
+
+pub returns-in-Late-clause-late : goal.returns-in-Late-clause-late
+returns-in-Late-clause-late g c = λ e.
+    record { parents = parents_unchanged c.args.self.now.parents c.in-Some.call c.hear.new.self c.in-Some.is (c.hear.ensures.late c.in-Late.is); items = refl; before = refl; flight = refl; waiting = refl; walk = refl; end = refl }

@@ -7,6 +7,7 @@ use Rattle.scan_core.proofs.Moving.{past_state, past_form, rest_rows, rest_of, r
 use Rattle.scan_core.specs.Calls.{passed_items}
 use Rattle.scan_core.specs.Courses.{state_of, went_on, end_view, Grows}
 use Rattle.scan_laws.specs.Steps.{past}
+use Rattle.scan_core.proofs.Going.{goes_past}
 use Rattle.scan_core.proofs.course.Course.take_row.Goals as goal
 
 pub returns-clause-state : goal.returns-clause-state
@@ -42,3 +43,8 @@ returns-clause-form g c =
     let rest = rest_rows s.flight t.flight first.row first.rows f.0 f.1 first.first in
     past_form c.args.scope.now s t first.row first.rows c.requires.form first.first rest (ap (λ w. w.items) c.pass_first.ensures.waiting) grows c.pass_first.ensures.parents c.pass_first.ensures.before items
     (rest_of c.args.scope.now s.flight t.flight f.0 f.1 c.requires.form.flight) (ap (λ x. x.window) (sym f.1) ∙ c.requires.form.window) (rest_room s.flight t.flight f.0 c.args.scope.now.window f.1 c.requires.form.room)
+
+pub returns-clause-goes : goal.returns-clause-goes
+returns-clause-goes g c =
+    let f = c.pass_first.ensures.flight in
+    goes_past c.args.self.now (record c.pass_first.new.self { end = c.end_if.result }) f.0 f.1 (ap (λ w. w.items) c.pass_first.ensures.waiting)
