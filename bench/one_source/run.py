@@ -5,7 +5,8 @@
 Run it by hand, after the gate has left the program; PROGRAM is another build of it. It needs jq, sqlite3 and GNU time. The child is `cat`,
 which gives prepared lines, so that what is timed is the command. jq only shows the columns of each line. sqlite3 first loads the lines into a
 table in memory, and that time counts. The answers of the command and of sqlite3 have to be the same in csv; of the other forms, in which the
-two differ in details, the length of each answer is printed, too.
+two differ in details, the length of each answer is printed, too. At the end stands what the text of each form takes beside the rows: the peak of
+memory less that of a statement that has the same rows and shows none of them.
 """
 import os
 import statistics
@@ -25,6 +26,7 @@ command = ["cat", "lines.jsonl", "-"]
 FORMS = ["table", "json", "line"]
 SOME = "select name, size from {} where size > 500 and region in ('eu', 'us') order by size desc, name limit 100"
 ALL = "select * from {}"
+NONE = "select * from {} where size < 0"
 LOAD = r"""create table line (text text);
 .mode ascii
 .separator "\t" "\n"
@@ -54,6 +56,7 @@ def trials(program):
         ("command, some", command, SOME.format("c.item")),
         ("jq, two columns", ["jq", "-r", show.format(".name, .size"), "lines.jsonl"], ""),
         ("sqlite3, some", ["sqlite3"], LOAD + SOME.format("item") + ";"),
+        ("command, none", command, NONE.format("c.item")),
         ("command, all", command, ALL.format("c.item")),
         ("jq, all columns", ["jq", "-r", show.format(".id, .name, .size, .region, .owner"), "lines.jsonl"], ""),
         ("sqlite3, all", ["sqlite3"], LOAD + ALL.format("item") + ";"),
@@ -94,10 +97,16 @@ def main():
         for statement in ["some", "all"]:
             if answer(f"command, {statement}") != answer(f"sqlite3, {statement}"):
                 sys.exit(f"the answers differ: {statement}")
+        peaks = {}
         for name, runs in figures.items():
             seconds, processor, kibibytes = map(statistics.median, zip(*runs))
             length = os.path.getsize(name) / 1_000_000
+            peaks[name] = kibibytes * 1024
             print(f"{name:16} {seconds:5.2f} s, {processor:5.2f} s of processor, {kibibytes / 1024:4.0f} MiB, {length:5.1f} MB")
+        for name in ["all", *FORMS]:
+            beside = peaks[f"command, {name}"] - peaks["command, none"]
+            times = beside / os.path.getsize(f"command, {name}")
+            print(f"{name:16} {beside / 1_000_000:5.1f} MB beside the rows, {times:.1f} times the text")
         os.chdir("/")
 
 
