@@ -1,8 +1,8 @@
 -- The lines of an input, and what each of them is.
-use Rattle.std.specs.Prelude.{ℕ, ◌-◌, ◌<◌, ◌≤◌, ◌==◌, nat_eq, nat_le, Bool, ◌&&◌, ◌||◌, not, List, [], ◌∷◌, length, map, take, drop, codes, Option, Some, None, if◌then◌else◌}
+use Rattle.std.specs.Prelude.{ℕ, ◌-◌, ◌<◌, ◌≤◌, ◌==◌, nat_eq, Bool, ◌&&◌, ◌||◌, not, List, [], ◌∷◌, length, map, take, drop, codes, Option, Some, None, if◌then◌else◌}
 use Rattle.std.specs.List.{slice_split, filter, list_all, starts_with, ends_with, before_first, after_first, prefix_len}
-use Rattle.std.specs.Str.{is_utf8, all_ascii_digits}
-use Rattle.std.specs.Str.Parse.{digits_value}
+use Rattle.std.specs.Str.{is_utf8}
+use Rattle.spelled_counts.specs.Counts.{count_of}
 use Rattle.input_lines.specs.declared.line.Line.{Line}
 use Rattle.input_lines.specs.declared.line.Line.TheVariants.{Statement, ClearCache, BadForm}
 use Rattle.input_lines.specs.declared.line.LinesFault.{LinesFault}
@@ -39,38 +39,39 @@ is_blank text = list_all (λ byte. is_space byte || byte == 9) text
 abbrev pub begins_with : List ℕ → List ℕ → Bool
 begins_with start text = starts_with nat_eq text start
 
--- the number from 1 to 64 that these digits spell, without leading zeros
+abbrev pub last_session : ℕ
+last_session = 64
+
+-- the session that these digits spell, counted from 1
 abbrev pub session_of : List ℕ → Option ℕ
-session_of digits =
-    let number = digits_value 10 digits in
-    if all_ascii_digits digits && not (begins_with (codes "0") digits) && nat_le 1 number && nat_le number 64 then Some number else None
+session_of digits = count_of last_session digits
 
 abbrev pub is_clear_cache : List ℕ → Bool
 is_clear_cache text = begins_with (codes ".cache clear") text && is_blank (drop 12 text)
 
 -- what stands in the place of a session's statement
-abbrev pub placed : ℕ → List ℕ → Line
-placed session text = if begins_with (codes ".") text then (if is_clear_cache text then ClearCache session else BadForm) else Statement session text
+abbrev pub session_line : ℕ → List ℕ → Line
+session_line session text = if begins_with (codes ".") text then (if is_clear_cache text then ClearCache session else BadForm) else Statement session text
 
 abbrev pub without_spaces : List ℕ → List ℕ
 without_spaces text = drop (prefix_len is_space text) text
 
 abbrev pub after_mark : Option ℕ → List ℕ → Line
 after_mark None text = BadForm
-after_mark (Some session) text = if is_blank text then BadForm else placed session text
+after_mark (Some session) text = if is_blank text then BadForm else session_line session text
 
 -- after the `@`: a session, one or more spaces, and what stands in the statement's place
-abbrev pub marked : List ℕ → Line
-marked text = after_mark (session_of (before_first is_space text)) (without_spaces (after_first is_space text))
+abbrev pub marked_line : List ℕ → Line
+marked_line text = after_mark (session_of (before_first is_space text)) (without_spaces (after_first is_space text))
 
 abbrev pub line_of : List ℕ → Line
 line_of line =
     if not (is_utf8 line) then BadForm
-    else (if begins_with (codes "@") line then marked (drop 1 line)
-    else placed 1 line)
+    else (if begins_with (codes "@") line then marked_line (drop 1 line)
+    else session_line 1 line)
 
 abbrev pub IsSession : ℕ → Type 0
-IsSession session = (1 ≤ session) × (session ≤ 64)
+IsSession session = (1 ≤ session) × (session ≤ last_session)
 
 abbrev pub HasSession : Line → Type 0
 HasSession (Statement session text) = IsSession session
@@ -83,8 +84,11 @@ HasSession BadForm = Unit {0}
 abbrev pub blocks_of : List ℕ → List Line
 blocks_of input = map line_of (filter (λ line. not (is_blank line)) (lines_of input))
 
+abbrev pub line_limit : ℕ
+line_limit = 10000
+
 abbrev pub HasTooManyLines : List ℕ → Type 0
-HasTooManyLines input = 10000 < length (lines_of input)
+HasTooManyLines input = line_limit < length (lines_of input)
 
 abbrev pub IsFaultOf : List ℕ → LinesFault → Type 0
 IsFaultOf input fault.TooMany = HasTooManyLines input

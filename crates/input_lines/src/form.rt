@@ -1,30 +1,21 @@
 // What one line is.
 
 ghost use Rattle.std.specs.Prelude.{◌≡◌, IfOk};
-ghost use Rattle.input_lines.specs.Lines.{is_blank, session_of, without_spaces, is_clear_cache, placed, marked, line_of};
+ghost use Rattle.input_lines.specs.Lines.{is_blank, without_spaces, is_clear_cache, session_line, marked_line, line_of};
 
 use crate::line::Line;
 use sp_value::{Memory, Text};
+use spelled_counts::count_of;
 use std::alloc::Global;
+
+/// Sessions are numbered from 1 to this.
+const LAST_SESSION: u32 = 64;
 
 /// Whether there are spaces and tabs alone.
 pub(crate) fn is_blank(text: &[u8]) -> bool
     ensures { result ≡ is_blank text.now }
 {
     text.iter().all(|byte| *byte == b' ' || *byte == b'\t')
-}
-
-/// The session that a mark's digits name.
-fn session_of(digits: &str) -> Option<u32>
-    ensures { result ≡ session_of digits.now }
-{
-    if digits.starts_with('0') || digits.starts_with('+') {
-        return None;
-    }
-    match digits.parse::<u32>() {
-        Ok(session @ 1..=64) => Some(session),
-        _ => None,
-    }
 }
 
 fn without_spaces(text: &str) -> &str
@@ -43,8 +34,8 @@ fn is_clear_cache(text: &[u8]) -> bool
 }
 
 /// What stands in the place of a session's statement.
-fn placed(alloc: Global, session: u32, text: &str) -> Result<Line, Memory>
-    ensures { IfOk result (λ line. line ≡ placed session text.now) }
+fn session_line(alloc: Global, session: u32, text: &str) -> Result<Line, Memory>
+    ensures { IfOk result (λ line. line ≡ session_line session text.now) }
 {
     if !text.as_bytes().starts_with(b".") {
         let text = Text::from_str(alloc, text)?;
@@ -58,20 +49,20 @@ fn placed(alloc: Global, session: u32, text: &str) -> Result<Line, Memory>
 }
 
 /// The line that has this after its `@`.
-fn marked(alloc: Global, text: &str) -> Result<Line, Memory>
-    ensures { IfOk result (λ line. line ≡ marked text.now) }
+fn marked_line(alloc: Global, text: &str) -> Result<Line, Memory>
+    ensures { IfOk result (λ line. line ≡ marked_line text.now) }
 {
     let Some((digits, rest)) = text.split_once(' ') else {
         return Ok(Line::BadForm);
     };
-    let Some(session) = session_of(digits) else {
+    let Some(session) = count_of(LAST_SESSION, digits) else {
         return Ok(Line::BadForm);
     };
     let rest = without_spaces(rest);
     if is_blank(rest.as_bytes()) {
         return Ok(Line::BadForm);
     }
-    placed(alloc, session, rest)
+    session_line(alloc, session, rest)
 }
 
 /// What a line is.
@@ -82,7 +73,7 @@ pub(crate) fn line_of(alloc: Global, line: &[u8]) -> Result<Line, Memory>
         return Ok(Line::BadForm);
     };
     match text.strip_prefix('@') {
-        Some(rest) => marked(alloc, rest),
-        None => placed(alloc, 1, text),
+        Some(rest) => marked_line(alloc, rest),
+        None => session_line(alloc, 1, text),
     }
 }

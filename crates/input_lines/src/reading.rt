@@ -2,13 +2,14 @@
 
 ghost use Rattle.std.specs.Prelude.{◌≡◌, ◌≤◌, IfOk, IfErr, length, position};
 ghost use Rattle.std.specs.List.{All, before_first, after_first};
-ghost use Rattle.input_lines.specs.Lines.{is_feed, without_return, blocks_of, HasSession, HasTooManyLines, IsFaultOf};
+ghost use Rattle.input_lines.specs.Lines.{is_feed, without_return, blocks_of, line_limit, HasSession, HasTooManyLines, IsFaultOf};
 
 use crate::form::{is_blank, line_of};
 use crate::line::{Line, LinesFault};
 use sqlite_items::Items;
 use std::alloc::Global;
 
+/// An input has at most so many lines, blank ones too.
 const LINE_LIMIT: usize = 10_000;
 
 /// The place of the first line feed.
@@ -47,7 +48,7 @@ pub fn read_lines(alloc: Global, input: &[u8]) -> Result<Items<Line>, LinesFault
     ensures within { IfOk result (λ lines. ¬ (HasTooManyLines input.now)) }
     // Each session is from 1 to 64, and there are at most 10,000 blocks.
     ensures sessions { IfOk result (λ lines. All HasSession lines) }
-    ensures few { IfOk result (λ lines. length lines ≤ 10000) }
+    ensures few { IfOk result (λ lines. length lines ≤ line_limit) }
     // It is refused for no other reason but memory.
     ensures refused { IfErr result (λ e. IsFaultOf input.now e) }
 {
