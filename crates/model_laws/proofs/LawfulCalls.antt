@@ -100,7 +100,7 @@ all_weaker p q f [] h = refl
 all_weaker p q f (x ∷ xs) h = and_from (q x) (list_all q xs) (f x (left (p x) (list_all p xs) h)) (all_weaker p q f xs (right (p x) (list_all p xs) h))
 
 -- each dependency has a result
-results_all : (gives : List ℕ → Option Outcome) (names : List (List ℕ)) (results : Results_of) → results_of gives names ≡ Given results → list_all (has_name (names_of results)) names ≡ true
+pub results_all : (gives : List ℕ → Option Outcome) (names : List (List ℕ)) (results : Results_of) → results_of gives names ≡ Given results → list_all (has_name (names_of results)) names ≡ true
 results_all gives [] results h = refl
 results_all gives (n ∷ ns) results h =
     let p : Parts n (gives n) (results_of gives ns) results = parts_of n (gives n) (results_of gives ns) results h in
@@ -109,7 +109,7 @@ results_all gives (n ∷ ns) results h =
     (all_weaker (has_name (names_of p.later)) (has_name (names_of (put_under n p.x p.later))) (put_keeps n p.x p.later) ns (results_all gives ns p.later p.rest_is)))
 
 -- and there is no other result
-results_only : (gives : List ℕ → Option Outcome) (names : List (List ℕ)) (results : Results_of) → results_of gives names ≡ Given results → list_all (has_name names) (names_of results) ≡ true
+pub results_only : (gives : List ℕ → Option Outcome) (names : List (List ℕ)) (results : Results_of) → results_of gives names ≡ Given results → list_all (has_name names) (names_of results) ≡ true
 results_only gives [] results h = let is : [] ≡ results = cc in subst (λ rs. list_all (has_name []) (names_of rs) ≡ true) is refl
 results_only gives (n ∷ ns) results h =
     let p : Parts n (gives n) (results_of gives ns) results = parts_of n (gives n) (results_of gives ns) results h in

@@ -64,11 +64,7 @@ impl<W: World> Course<W> {
     }
 
     /// A scan of which nothing is listed and nothing came. All slots of its rows are taken here.
-    pub fn begin(
-        alloc: Global,
-        scope: &ScanScope,
-        plan: Arc<RowPlan>,
-    ) -> Result<Course<W>, Memory>
+    pub fn begin(alloc: Global, scope: &ScanScope, plan: Arc<RowPlan>) -> Result<Course<W>, Memory>
         requires sources { IsScope scope.now }
         requires window { scope.now.window ≤ 4096 }
         requires functions { (arc_value plan).functions ≡ (table_of scope.now).functions }

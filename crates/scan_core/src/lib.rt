@@ -29,8 +29,6 @@ mod verdicts;
 
 pub use calls::{Entry, ItemsCall, OpenCall, ParentsCall};
 pub use course::{Course, CourseEnd};
-pub use laws::{
-    parents_piece_is_taken_in, piece_is_taken_in, scan_goes_on, still_scan_is_open,
-};
+pub use laws::{parents_piece_is_taken_in, piece_is_taken_in, scan_goes_on, still_scan_is_open};
 pub use scope::{CallSource, ScanScope};
 pub use seat::SeatOf;

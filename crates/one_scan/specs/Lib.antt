@@ -1,0 +1,4 @@
+pub mod Views
+pub mod Jobs
+pub mod Forms
+pub mod Scans
