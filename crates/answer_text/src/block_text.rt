@@ -3,7 +3,7 @@ ghost use Rattle.answer_text.specs.Blocks.{rows_text, block_text};
 
 use crate::answer::{Answer, Form, ShownEnd};
 use crate::csv_text::csv_text;
-use crate::error_text::{error_line, error_text};
+use crate::errors::{error_line, error_text};
 use crate::json_text::json_text;
 use crate::line_text::line_text;
 use crate::table_text::table_text;

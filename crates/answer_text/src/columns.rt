@@ -44,7 +44,7 @@ fn has_control(words: &[u8]) -> bool
 
 /// Appends a text, each control character as `\u` and four hexadecimal digits.
 #[tactic(auto, using(crate::proofs::Plain::plain))]
-pub(crate) fn push_escaped(text: &mut Vec<u8>, words: &[u8]) -> Result<(), Memory>
+pub fn push_escaped(text: &mut Vec<u8>, words: &[u8]) -> Result<(), Memory>
     ensures { OnOk result (text.new.items ≡ text.old.items ++ escaped words.now) }
 {
     if has_control(words) {

@@ -8,7 +8,7 @@ mod answer;
 mod block_text;
 mod columns;
 mod csv_text;
-mod error_text;
+mod errors;
 mod json_text;
 mod line_text;
 mod note_text;
@@ -18,4 +18,7 @@ mod table_text;
 
 pub use answer::{Answer, DeclarationFault, ErrorLine, Form, ShownEnd};
 pub use block_text::block;
-pub use note_text::notes;
+pub use columns::push_escaped;
+pub use errors::{error_line, error_text};
+pub use note_text::{access_word, notes};
+pub use spelled::push_all;

@@ -21,7 +21,8 @@ struct NotePlace {
     scan: u64,
 }
 
-fn access_word(access: Access) -> &'static str
+/// How an access is named in notes.
+pub fn access_word(access: Access) -> &'static str
     ensures { result.now ≡ access_word access }
 {
     match access {

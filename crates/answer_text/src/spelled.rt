@@ -9,7 +9,7 @@ use sp_value::{Cell, Kind, Memory, to_json};
 use std::alloc::Global;
 
 /// Appends bytes.
-pub(crate) fn push_all(text: &mut Vec<u8>, more: &[u8]) -> Result<(), Memory>
+pub fn push_all(text: &mut Vec<u8>, more: &[u8]) -> Result<(), Memory>
     ensures { OnOk result (text.new.items ≡ text.old.items ++ more.now) }
 {
     match text.extend_from_slice(more) {

@@ -2,7 +2,7 @@
 use Rattle.std.proofs.Common.{◌≡◌, ◌++◌, length}
 use Rattle.std.specs.Prelude.{string_bytes}
 use Rattle.answer_text.specs.Errors.{listed}
-use Rattle.answer_text.proofs.error_text.listed.Given as goal
+use Rattle.answer_text.proofs.errors.listed.Given as goal
 
 abbrev pub invariant-more : goal.invariant-more
 invariant-more l = string_bytes l.text ++ listed l.rest ≡ listed l.names

@@ -11,7 +11,7 @@ use sp_value::{Cell, Memory, Text, to_json};
 use std::alloc::{AllocError, Global};
 
 /// The line of an error of those words.
-pub(crate) fn error_line(alloc: Global, words: &str) -> Result<Vec<u8>, Memory>
+pub fn error_line(alloc: Global, words: &str) -> Result<Vec<u8>, Memory>
     ensures { IfOk result (λ v. v.items ≡ error_line words.now) }
 {
     let mut text = Vec::from_slice(alloc, b"error: ")?;
@@ -195,7 +195,7 @@ fn error_words(alloc: Global, error: &ErrorLine) -> Result<String, AllocError>
 }
 
 /// The line of an error.
-pub(crate) fn error_text(alloc: Global, error: &ErrorLine) -> Result<Vec<u8>, Memory>
+pub fn error_text(alloc: Global, error: &ErrorLine) -> Result<Vec<u8>, Memory>
     ensures { IfOk result (λ v. v.items ≡ error_text error.now) }
 {
     let words = error_words(alloc, error)?;
