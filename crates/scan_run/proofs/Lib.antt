@@ -1,0 +1,5 @@
+pub mod Calling
+pub mod Numbers
+pub mod Scanning
+pub mod Serving
+pub mod States
