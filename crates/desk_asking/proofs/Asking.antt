@@ -1,6 +1,6 @@
 -- Jobs that ask a connection itself are lawful.
-use Rattle.std.proofs.Common.{◌≡◌, ◌≤◌, ◌<◌, ◌^◌, ℕ, Bool, false, List, Contains, Option, None, refl, sym, subst, ap, arith, ◌∙◌}
-use Rattle.call_jobs.specs.Jobs.{IsJob, asked_by, table_by, function_by, line_function, connection_of, tags_for}
+use Rattle.std.proofs.Common.{◌≡◌, ◌≤◌, ◌^◌, ℕ, Bool, false, List, Contains, Option, None, refl, sym, subst, ap, arith, ◌∙◌}
+use Rattle.call_jobs.specs.Jobs.{IsJob, asked_by, table_by, line_function, connection_of, tags_for}
 use Rattle.call_jobs.specs.Lawful.{IsLawful, IsLawfulJob}
 use Rattle.call_jobs.specs.declared.job.Job.{Job}
 use Rattle.sp_model.specs.Book.{Book}

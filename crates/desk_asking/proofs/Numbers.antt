@@ -1,5 +1,5 @@
 -- Plain connections by number.
-use Rattle.std.proofs.Common.{◌≡◌, ℕ, zero, suc, ◌+◌, ◌<◌, ◌≤◌, List, [], ◌∷◌, Some, Bool, true, false, ◌&&◌, ◌||◌, not, get_or, drop, length, slice_get, map, filter, refl, sym, ap, subst, ◌∙◌, arith, add-one}
+use Rattle.std.proofs.Common.{◌≡◌, ℕ, zero, suc, ◌+◌, ◌<◌, ◌≤◌, List, [], ◌∷◌, Some, Bool, true, false, ◌||◌, get_or, drop, length, slice_get, refl, sym, ap, ◌∙◌, arith, add-one}
 use Rattle.std.specs.Prelude.{bytes_eq, Contains}
 use Rattle.std.proofs.lemmas.Slice.Eq.{bytes_eq-Decides}
 use Rattle.sp_model.specs.Names.{has_name}
@@ -61,11 +61,6 @@ named_skip cs i c name lt e on h = sym (has_skip cs i c name lt e on) ∙ h
 pub named_next : (cs : List Connection) (i : ℕ) (c : Connection) (name : List ℕ) → i < length cs → c ≡ get_or cs i c → c.aggregator ≡ false → bytes_eq name c.name ≡ false → has_name (plain_names (drop i cs)) name ≡ true
     → has_name (plain_names (drop (i + 1) cs)) name ≡ true
 named_next cs i c name lt e on off h = of_rest (bytes_eq name c.name) (has_name (plain_names (drop (i + 1) cs)) name) off (sym (has_next cs i c name lt e on) ∙ h)
-
-get_is : (cs : List Connection) (i : ℕ) (c : Connection) → i < length cs → c ≡ get_or cs i c → slice_get cs i ≡ Some c
-get_is [] i c lt e = absurd (omega arith)
-get_is (d ∷ cs) zero c lt e = ap Some (sym e)
-get_is (d ∷ cs) (suc i) c lt e = get_is cs i c (omega arith) e
 
 pub is_among : (cs : List Connection) (i : ℕ) (c : Connection) → i < length cs → c ≡ get_or cs i c → Contains cs c
 is_among cs i c lt e = (i, lt, sym e)

@@ -1,6 +1,6 @@
 // Mail, as a statement takes it that waits for one connection.
 
-ghost use Rattle.std.specs.Prelude.{◌≡◌, Contains, IfErr};
+ghost use Rattle.std.specs.Prelude.{◌≡◌, Contains, IfOk, IfErr, IfSome};
 ghost use Rattle.desk.specs.States.{DeskState};
 ghost use Rattle.statement_words.specs.Runs.{IsLater, IsGone, IsSpentOf};
 
@@ -52,6 +52,7 @@ pub fn take_line<W: World, D: Desk<W>>(
     seats: u64,
 ) -> Result<Option<(Seat, ToldLine<W>)>, Stop>
     requires settings { (D.state desk.old).settings ≡ settings.now }
+    ensures seat { IfOk result (λ line. IfSome line (λ l. l.0.scan ≡ seats)) }
     ensures state { IsLater (D.state desk.old) (D.state desk.new) }
     ensures err { IfErr result (IsSpentOf (D.state desk.new) connection.now) }
 {

@@ -1,5 +1,5 @@
 -- Jobs of calls that a scan wants.
-use Rattle.std.proofs.Common.{◌≡◌, ℕ, zero, suc, ◌≤◌, ◌^◌, ◌<◌, Bool, true, false, IsTrue, List, [], ◌∷◌, ◌++◌, slice_get, Option, Some, None, refl, sym, ap, subst, ◌∙◌, arith}
+use Rattle.std.proofs.Common.{◌≡◌, ℕ, zero, suc, Bool, false, List, [], ◌∷◌, ◌++◌, slice_get, Option, Some, refl, sym, ap, subst, ◌∙◌, arith}
 use Rattle.std.specs.Prelude.{All, Contains}
 use Rattle.std.proofs.lemmas.List.Elements.{All-nil, All-pop, All-push}
 use Rattle.sp_model.specs.Book.{Book}
@@ -11,8 +11,8 @@ use Rattle.sp_model.specs.declared.scan.Seat.{Seat}
 use Rattle.sp_model.specs.declared.settings.Connection.{Connection}
 use Rattle.decl_words.specs.BookTables.{book_table}
 use Rattle.sp_world.specs.RequestLines.{IsAskedForm}
-use Rattle.call_jobs.specs.Jobs.{asked_by, table_by, function_by, line_function, connection_of, tags_for, IsJob}
-use Rattle.call_jobs.specs.Lawful.{IsLawful, IsLawfulCall, IsOfConnections, IsLawfulJob}
+use Rattle.call_jobs.specs.Jobs.{asked_by, line_function, connection_of, tags_for, IsJob}
+use Rattle.call_jobs.specs.Lawful.{IsLawful, IsOfConnections, IsLawfulJob}
 use Rattle.call_jobs.specs.declared.job.Job.{Job}
 use Rattle.row_flight.specs.declared.frame.Wanted.{Wanted}
 use Rattle.one_scan.specs.Jobs.{IsScanJob, Adds}
@@ -67,11 +67,6 @@ pub call_is_lawful : (tells : Bool) (book : Book) (connections : List Connection
 call_is_lawful tells book connections c table w job place call h =
     lawful_job tells book connections c (asks.Call w.call) (Some table) w.seat w.due job place.among place.plain (sym call.connection)
     (record { lawful = call.lawful; of_book = λ t. ap (λ (name : List ℕ). book_table book name table.name) call.connection ∙ place.of_book t }) call.form h
-
-pub version_is_lawful : (tells : Bool) (book : Book) (connections : List Connection) (c : Connection) (tick : ℕ) (seat : Seat) (due : ℕ) (job : Job)
-    → Contains connections c → c.aggregator ≡ false → tick ≤ 2 ^ 62 → IsJob c (asks.Version c.name tick) None seat due job → IsLawfulJob tells book connections job
-version_is_lawful tells book connections c tick seat due job among plain le h =
-    lawful_job tells book connections c (asks.Version c.name tick) None seat due job among plain refl le (omega (arith, le), refl) h
 
 -- ---- lists
 

@@ -8,7 +8,7 @@ use Rattle.sp_model.specs.declared.call.Asked.{Asked}
 use Rattle.sp_model.specs.declared.call.Asked.TheVariants as asks
 use Rattle.sp_model.specs.declared.call.Version.{Version}
 use Rattle.sp_model.specs.declared.declaration.TableDecl.{TableDecl}
-use Rattle.sp_model.specs.declared.outcome.ScanValue.TheVariants.{Rows, Failed}
+use Rattle.sp_model.specs.declared.outcome.ScanValue.TheVariants.{Rows}
 use Rattle.sp_model.specs.declared.scan.ScanNote.{ScanNote}
 use Rattle.sp_model.specs.declared.scan.ScanRequest.{ScanRequest}
 use Rattle.sp_model.specs.declared.settings.Options.{Options}
@@ -28,7 +28,7 @@ use Rattle.sp_world.specs.Pieces.{IsToldVersion}
 use Rattle.sp_model.specs.Covers.{covers}
 use Rattle.sp_model.specs.Walk.{scan_value}
 use Rattle.desk.specs.States.{DeskState, at_tick}
-use Rattle.statement_words.specs.Answered.{Adds, IsValued, IsScanned}
+use Rattle.statement_words.specs.Answered.{Adds, IsScanned}
 use Rattle.statement_words.specs.Ended.{IsEndOf}
 use Rattle.statement_words.specs.Noted.{new_note, cached_note}
 use Rattle.statement_words.specs.Runs.{IsLater, IsMemory, IsSpentOf, IsStopOf}

@@ -1,5 +1,5 @@
 -- The rows that a kept scan gives are the request's own.
-use Rattle.std.proofs.Common.{◌≡◌, ℕ, Bool, true, false, ◌&&◌, List, [], ◌∷◌, Option, Some, None, Result, Ok, Err, refl, sym, ap, subst, ◌∙◌, IsTrue}
+use Rattle.std.proofs.Common.{◌≡◌, ℕ, Bool, true, false, ◌&&◌, List, Option, Some, None, Result, Ok, Err, refl, sym, ap, subst, ◌∙◌}
 use Rattle.std.specs.List.{list_all}
 use Rattle.std.specs.Prelude.{is_none, IfOk}
 use Rattle.std.proofs.lemmas.Slice.Eq.{bytes_eq-Decides}
@@ -7,7 +7,7 @@ use Rattle.sp_value.specs.declared.cell.Cell.{Cell}
 use Rattle.sp_model.specs.Book.{Book}
 use Rattle.sp_model.specs.Calls.{fit_keys}
 use Rattle.sp_model.specs.Covers.{covers, is_get, same_access}
-use Rattle.sp_model.specs.Keys.{is_met, is_sent, list_access}
+use Rattle.sp_model.specs.Keys.{is_met, list_access}
 use Rattle.sp_model.specs.Requests.{IsRequestOf, keys_for, keys_of_list, subset_for, are_sent}
 use Rattle.sp_model.specs.Walk.{scan_value}
 use Rattle.sp_model.specs.declared.call.Condition.{Condition}

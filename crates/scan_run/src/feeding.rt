@@ -8,11 +8,11 @@ ghost use Rattle.scan_run.specs.Asked.{IsTableOf};
 ghost use Rattle.statement_words.specs.Ended.{IsEndOf};
 ghost use Rattle.statement_words.specs.Runs.{IsLater, IsMemory, IsSpentOf, IsStopOf};
 
-use crate::asking::take_line;
 use crate::calls::{jobs_of, wanted_calls};
 use crate::deciding::{finish, is_done};
 use crate::posting::submit_all;
 use desk::Desk;
+use desk_asking::take_line;
 use one_scan::Scan;
 use row_flight::Taken;
 use sp_model::{Connection, Piece, Seat, Settings, TableDecl};

@@ -12,10 +12,9 @@ ghost use Rattle.statement_words.specs.Answered.{IsScanned, Adds};
 ghost use Rattle.statement_words.specs.Noted.{new_note};
 ghost use Rattle.statement_words.specs.Runs.{plain_names, IsLater, IsSpentOf, IsStopOf};
 
-use crate::asking::ask_version;
 use crate::feeding::run_to_end;
-use crate::places::plain_named;
 use desk::Desk;
+use desk_asking::{ask_version, plain_named};
 use one_scan::Scan;
 use sp_model::{Connection, Mark, ScanNote, ScanNotes, ScanRequest, Settings, TableDecl, Version};
 use sp_value::{Memory, Rows, TryCopy};

@@ -5,13 +5,11 @@
 //! `specs/Asked.antt`, what a scan comes to in `Answered.antt` of `statement_words`. Begin reading at `scan.rt`.
 #![tactic(auto)]
 
-mod asking;
 mod calls;
 mod deciding;
 mod feeding;
 mod fresh;
 mod kept;
-mod places;
 mod posting;
 mod scan;
 

@@ -1,4 +1,4 @@
-use Rattle.std.proofs.Common.{◌≡◌, ◌∙◌, ap, sym, Some, List, refl, arith}
+use Rattle.std.proofs.Common.{◌∙◌, ap, sym, Some, refl, arith}
 use Rattle.std.proofs.lemmas.Slice.Eq.{bytes_eq-Decides}
 use Rattle.desk_asking.proofs.Numbers.{place_skip, place_next, place_here}
 use Rattle.desk_asking.proofs.places.is_at.Goals as goal

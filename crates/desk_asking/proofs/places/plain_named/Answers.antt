@@ -1,4 +1,4 @@
-use Rattle.std.proofs.Common.{sym, ◌∙◌, arith}
+use Rattle.std.proofs.Common.{sym, ◌∙◌}
 use Rattle.desk_asking.proofs.Numbers.{named_skip, named_next, named_none}
 use Rattle.desk_asking.proofs.places.plain_named.Goals as goal
 

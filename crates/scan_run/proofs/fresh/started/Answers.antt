@@ -1,4 +1,4 @@
-use Rattle.std.proofs.Common.{◌≡◌, ◌∙◌, ℕ, List, sym, ap, subst}
+use Rattle.std.proofs.Common.{◌∙◌, ℕ, List, ap, subst}
 use Rattle.sp_model.specs.declared.call.Asked.TheVariants as asks
 use Rattle.statement_words.specs.Runs.{IsSpentOf}
 use Rattle.scan_run.proofs.Scanning.{place_book}

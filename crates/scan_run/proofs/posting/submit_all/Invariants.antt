@@ -1,4 +1,4 @@
-use Rattle.std.proofs.Common.{◌≡◌, length}
+use Rattle.std.proofs.Common.{length}
 use Rattle.std.specs.Prelude.{All}
 use Rattle.call_jobs.specs.Lawful.{IsLawfulJob}
 use Rattle.statement_words.specs.Runs.{IsLater}
