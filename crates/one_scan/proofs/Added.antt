@@ -1,12 +1,8 @@
 -- The calls that a scan lists are lawful calls of it.
-use Rattle.std.proofs.Common.{IsSome, ◌≡◌, ◌<◌, ◌^◌, ℕ, zero, suc, Bool, true, false, ◌&&◌, List, [], ◌∷◌, ◌++◌, length, Option, Some, None, refl, sym, ap, subst, ◌∙◌, append_assoc, inl, inr}
+use Rattle.std.proofs.Common.{IsSome, ◌≡◌, ◌<◌, ◌^◌, ℕ, zero, suc, Bool, true, List, [], ◌∷◌, ◌++◌, Option, Some, None, refl, sym, ap, subst, ◌∙◌, append_assoc, inl, inr}
 use Rattle.std.specs.Prelude.{slice_get}
-use Rattle.sp_model.specs.Calls.{is_lawful_by, function_of}
 use Rattle.sp_model.specs.Sayable.{IsSayableVersion}
-use Rattle.sp_model.specs.declared.call.Asked.TheVariants as asks
 use Rattle.sp_model.specs.declared.call.Call.{Call}
-use Rattle.sp_model.specs.declared.call.Call.TheVariants as calls
-use Rattle.sp_model.specs.declared.call.CallKey.{CallKey}
 use Rattle.sp_model.specs.declared.call.Version.{Version}
 use Rattle.sp_model.specs.declared.call.Version.TheVariants.{Is, Bad}
 use Rattle.sp_model.specs.Book.{Book}
@@ -21,7 +17,6 @@ use Rattle.scan_core.specs.Courses.{table_of, IsCourse, IsOpenCall}
 use Rattle.scan_core.specs.Going.{IsIn}
 use Rattle.scan_core.specs.Listing.{wanted_of, items_slot, items_function, CallLists, ListsNone, ListsItems, ListsParents, CourseLists}
 use Rattle.scan_core.specs.declared.calls.ItemsCall.{ItemsCall}
-use Rattle.scan_core.specs.declared.calls.OpenCall.{OpenCall}
 use Rattle.scan_core.specs.declared.calls.ParentsCall.{ParentsCall}
 use Rattle.scan_core.specs.declared.course.Course.{Course}
 use Rattle.scan_core.specs.declared.scope.ScanScope.{ScanScope}
@@ -30,7 +25,6 @@ use Rattle.one_scan.proofs.Goes.{listed_scan}
 use Rattle.one_scan.proofs.Truth.{same_scan, same_open}
 use Rattle.one_scan.specs.Views.{SameScan}
 use Rattle.one_scan.proofs.Lawful.{IsLawfulCall, functions_apart, inner_lawful, outer_lawful, row_lawful}
-use Rattle.one_scan.specs.Forms.{IsForm}
 use Rattle.one_scan.specs.Jobs.{IsScanJob, Adds}
 use Rattle.one_scan.specs.Scans.{view_of, IsAt, IsScan}
 

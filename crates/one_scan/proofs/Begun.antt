@@ -1,10 +1,9 @@
 -- A scan as it begins.
-use Rattle.std.proofs.Common.{◌≡◌, ◌≤◌, ◌<◌, ◌^◌, ℕ, zero, suc, nat_le, Bool, true, false, ◌&&◌, List, [], ◌∷◌, length, get_or, map, filter, Option, Some, None, IsTrue, if◌then◌else◌, refl, sym, ap, subst, ◌∙◌, arith}
+use Rattle.std.proofs.Common.{◌≡◌, ◌≤◌, ◌^◌, ℕ, zero, suc, nat_le, Bool, true, false, ◌&&◌, List, [], ◌∷◌, length, get_or, map, filter, Option, Some, None, IsTrue, if◌then◌else◌, refl, sym, ap, subst, ◌∙◌, arith}
 use Rattle.std.proofs.lemmas.Bool.{leb-true}
 use Rattle.std.specs.Prelude.{Result, Ok, Err, IfOk}
 use Rattle.std.specs.List.{list_all}
 use Rattle.std.specs.Option.{option_map_or}
-use Rattle.sp_value.specs.declared.cell.Cell.{Cell}
 use Rattle.sp_model.specs.Book.{Book}
 use Rattle.sp_model.specs.Requests.{IsRequestOf}
 use Rattle.sp_model.specs.Rests.{column_rests}
@@ -17,27 +16,24 @@ use Rattle.sp_model.specs.declared.call.Asked.{Asked}
 use Rattle.sp_model.specs.declared.call.Asked.TheVariants as asks
 use Rattle.sp_model.specs.declared.call.Version.{Version}
 use Rattle.sp_model.specs.declared.call.Version.TheVariants.{Is, Bad}
-use Rattle.sp_model.specs.declared.declaration.ColumnDecl.{ColumnDecl}
 use Rattle.sp_model.specs.declared.declaration.FunctionDecl.{FunctionDecl}
 use Rattle.sp_model.specs.declared.declaration.Rule.{Rule}
 use Rattle.sp_model.specs.declared.declaration.TableDecl.{TableDecl}
-use Rattle.sp_model.specs.declared.outcome.ScanValue.{ScanValue}
 use Rattle.sp_model.specs.declared.outcome.Walk.{Walk}
 use Rattle.sp_model.specs.declared.scan.Access.{Access}
 use Rattle.sp_model.specs.declared.scan.Access.TheVariants.{Get, List as OfList, Parents}
-use Rattle.sp_model.specs.declared.scan.Cause.TheVariants.{BadVersion}
 use Rattle.sp_model.specs.declared.scan.ScanRequest.{ScanRequest}
 use Rattle.sp_world.specs.Pieces.{IsToldVersion}
 use Rattle.decl_words.specs.BookTables.{book_table}
-use Rattle.decl_words.specs.Limits.{is_short, column_fits, function_fits, list_fits, get_fits, rule_fits, table_fits}
+use Rattle.decl_words.specs.Limits.{is_short, column_fits, function_fits, list_fits, get_fits, rule_fits}
 use Rattle.decl_words.specs.Sound.{IsSound}
 use Rattle.model_laws.proofs.Merging.{left, right}
-use Rattle.model_laws.specs.LawfulScans.{has_attempts, is_lawful_access, is_lawful_scan}
+use Rattle.model_laws.specs.LawfulScans.{has_attempts, is_lawful_scan}
 use Rattle.hydrate_graph.specs.Graphs.{Plan, rules_in}
 use Rattle.hydrate_graph.specs.Plans.{AreApart}
 use Rattle.row_flight.specs.Flying.{InFlight}
 use Rattle.row_flight.specs.Hearing.{AllHear}
-use Rattle.row_flight.specs.Rows.{no_rule, rule_at}
+use Rattle.row_flight.specs.Rows.{no_rule}
 use Rattle.scan_laws.proofs.Stepping.{scan_begins}
 use Rattle.scan_laws.specs.Scans.{Agrees}
 use Rattle.scan_laws.specs.States.{Inner, Outer, Scan, begun}
@@ -46,8 +42,6 @@ use Rattle.scan_core.specs.Calls.{items_source}
 use Rattle.scan_core.specs.Courses.{end_view, state_of, table_of, IsScope, IsCourse}
 use Rattle.scan_core.specs.Going.{IsIn}
 use Rattle.scan_core.specs.declared.course.Course.{Course}
-use Rattle.scan_core.specs.declared.course.CourseEnd.{CourseEnd}
-use Rattle.scan_core.specs.declared.course.CourseEnd.TheVariants.{Failed as FailedAt}
 use Rattle.scan_core.specs.declared.scope.ScanScope.{ScanScope}
 use Rattle.one_scan.proofs.Lawful.{items_some, outer_some, access_lawful, functions_tried}
 use Rattle.one_scan.specs.Forms.{AreItems, AreWide, IsAskedBy, IsInnerForm, IsOuterForm, IsStateForm, IsPlanForm, IsForm}
@@ -147,25 +141,25 @@ pub begun_scan : {X : Type 0} (tells : Bool) (book : Book) (scope : ScanScope) (
     → IsRequestOf (table_of scope) scope.request → is_lawful_scan (table_of scope) scope.request ≡ true → asked ≤ 2 ^ 62
     → (IsTrue tells → (book_table book scope.request.connection scope.request.table ≡ Some (table_of scope)) × (version ≡ book.version scope.request.connection asked)) → IsScan tells book scope d version asked
 begun_scan {X} tells book scope d version asked sources begins number sayable made lawful tick told =
-  let c = begins.0 in
-  let b = begins.1 in
-  record {
-  sources = sources;
-  course = subst (λ (z : Course X). IsCourse scope z) (sym begins.2) (record { front = b.course.front; closed = b.course.closed; items = b.course.items; parents = b.course.parents; flight = b.course.flight; window = b.course.window; room = b.course.room; few = b.course.few });
-  form = subst (λ (z : Course X). IsForm scope z) (sym begins.2) (record {
-    state = begun_state (table_of scope) scope.request lawful (state_of scope (record c { end = end_of version })) (end_view c.walk (end_of version)) (ap (λ (st : Scan). record st { end = end_view c.walk (end_of version) }) b.state);
-    plan = b.plan;
-    rows = λ s there. absurd (subst (IsIn s) b.rows there);
-    connection = b.connection;
-    version = b.version;
-  });
-  at = at_by version begins.2 number;
-  sayable = sayable;
-  made = made;
-  lawful = lawful;
-  tick = tick;
-  told = λ t. let t2 = told t in record { of_book = t2.0; version = t2.1; agrees = agrees_by version begins.2 };
-}
+    let c = begins.0 in
+    let b = begins.1 in
+    record {
+      sources = sources;
+      course = subst (λ (z : Course X). IsCourse scope z) (sym begins.2) (record { front = b.course.front; closed = b.course.closed; items = b.course.items; parents = b.course.parents; flight = b.course.flight; window = b.course.window; room = b.course.room; few = b.course.few });
+      form = subst (λ (z : Course X). IsForm scope z) (sym begins.2) (record {
+        state = begun_state (table_of scope) scope.request lawful (state_of scope (record c { end = end_of version })) (end_view c.walk (end_of version)) (ap (λ (st : Scan). record st { end = end_view c.walk (end_of version) }) b.state);
+        plan = b.plan;
+        rows = λ s there. absurd (subst (IsIn s) b.rows there);
+        connection = b.connection;
+        version = b.version;
+      });
+      at = at_by version begins.2 number;
+      sayable = sayable;
+      made = made;
+      lawful = lawful;
+      tick = tick;
+      told = λ t. let t2 = told t in record { of_book = t2.0; version = t2.1; agrees = agrees_by version begins.2 };
+    }
   where
     at_by : (v : Version) → d ≡ record begins.0 { end = end_of v } → scope.version ≡ number_of v → IsAt v scope d
     at_by (Is v) e n = n

@@ -1,5 +1,5 @@
 -- What holds of a scan's parts stays as its calls are listed and pieces of their replies come.
-use Rattle.std.proofs.Common.{◌≡◌, ◌⊎◌, inl, inr, ◌==◌, ℕ, Bool, true, false, List, [], ◌∷◌, ◌++◌, length, take, drop, map, Option, Some, None, IsTrue, if◌then◌else◌, refl, sym, ap, subst, ◌∙◌}
+use Rattle.std.proofs.Common.{◌≡◌, ◌⊎◌, inl, inr, ℕ, Bool, true, List, [], ◌++◌, length, take, drop, Option, Some, None, IsTrue, refl, sym, ap, subst, ◌∙◌}
 use Rattle.std.proofs.lemmas.List.{length-map}
 use Rattle.sp_value.specs.declared.cell.Cell.{Cell}
 use Rattle.sp_model.specs.Book.{Book}
@@ -21,27 +21,23 @@ use Rattle.sp_model.specs.declared.scan.Seat.{Seat}
 use Rattle.sp_world.specs.Pieces.{IsPieceOf, IsToldPiece, IsSoundPiece}
 use Rattle.model_laws.specs.LawfulScans.{is_lawful_scan}
 use Rattle.row_flight.proofs.Going.{flight_goes_on}
-use Rattle.row_flight.specs.Flying.{Seated, InFlight, IsOf, rows_in, rows_of, heard_at}
-use Rattle.row_flight.specs.Hearing.{IsPieceOfSeen, AllHear, Keeps}
-use Rattle.row_flight.specs.Jobs.{DifferInListed, Lists}
+use Rattle.row_flight.specs.Flying.{Seated, InFlight, IsOf, rows_of, heard_at}
+use Rattle.row_flight.specs.Hearing.{IsPieceOfSeen, AllHear}
+use Rattle.row_flight.specs.Jobs.{DifferInListed}
 use Rattle.row_flight.specs.declared.frame.Wanted.{Wanted}
 use Rattle.scan_laws.proofs.Stepping.{inner_is_listed, outer_is_listed}
 use Rattle.scan_laws.specs.Flights.{AreApart}
-use Rattle.scan_laws.specs.Scans as scans
 use Rattle.scan_laws.specs.Scans.{Agrees, items_of}
-use Rattle.scan_laws.specs.States.{Outer, Inner, Scan}
+use Rattle.scan_laws.specs.States.{Outer, Inner}
 use Rattle.scan_laws.specs.Steps.{flown}
 use Rattle.scan_core.proofs.HeardRows.{heard_items}
 use Rattle.scan_core.proofs.Keeping.{advance_keeps, inner_hears, outer_hears}
 use Rattle.scan_core.proofs.Listed.{items_state, parents_state, differ_items}
-use Rattle.scan_core.specs.Advances.{Advances}
 use Rattle.scan_core.specs.Calls.{inner_of, inner_view, outer_of, outer_view}
 use Rattle.scan_core.specs.Courses.{end_view, state_of, table_of, IsCourse}
-use Rattle.scan_core.specs.Going.{IsIn, GoesOn}
-use Rattle.scan_core.specs.Hearing.{inner_heard, outer_heard, InnerTakes, OuterTakes, ItemsAwait, ParentsAwait, AwaitsBy, HearsBy, Hears, TakesIn, StandsStill, IsUnchanged, seat_of}
+use Rattle.scan_core.specs.Going.{IsIn}
+use Rattle.scan_core.specs.Hearing.{AwaitsBy, HearsBy, TakesIn, StandsStill, seat_of}
 use Rattle.scan_core.specs.Listing.{items_listed, parents_listed, CallLists, ListsNone, ListsItems, ListsParents, CourseLists}
-use Rattle.scan_core.specs.declared.calls.ItemsCall.{ItemsCall}
-use Rattle.scan_core.specs.declared.calls.ParentsCall.{ParentsCall}
 use Rattle.scan_core.specs.declared.course.Course.{Course}
 use Rattle.scan_core.specs.declared.course.CourseEnd.{CourseEnd}
 use Rattle.scan_core.specs.declared.scope.ScanScope.{ScanScope}
@@ -51,7 +47,7 @@ use Rattle.one_scan.proofs.Lawful.{items_some, access_lawful, functions_apart}
 use Rattle.one_scan.proofs.RowForms.{listed_rows_form, heard_rows_form, goes_form, goes_hear}
 use Rattle.one_scan.proofs.StateForms.{advances_form, listed_form, outer_listed_form, flown_form, heard_form, outer_heard_form}
 use Rattle.one_scan.specs.Forms.{IsStateForm, IsPlanForm, IsRowForm, IsForm}
-use Rattle.one_scan.specs.Scans.{IsAt, AgreesWith, IsTold, IsScan}
+use Rattle.one_scan.specs.Scans.{IsAt, AgreesWith, IsScan}
 
 -- ---- rows in flight that are replaced
 

@@ -1,5 +1,5 @@
 -- The calls of a scan are lawful, and have lines that are read as themselves.
-use Rattle.std.proofs.Common.{◌≡◌, ◌≤◌, ◌<◌, ℕ, zero, suc, nat_le, Bool, true, false, ◌&&◌, List, [], ◌∷◌, length, get_or, map, Option, Some, None, IsSome, is_some, is_none, bytes_eq, refl, sym, ap, subst, ◌∙◌, arith}
+use Rattle.std.proofs.Common.{◌≡◌, ◌≤◌, ◌<◌, ℕ, zero, suc, nat_le, Bool, true, false, ◌&&◌, List, [], ◌∷◌, length, get_or, Option, Some, None, IsSome, is_some, is_none, bytes_eq, refl, sym, ap, subst, ◌∙◌, arith}
 use Rattle.std.specs.Prelude.{slice_get, option_map}
 use Rattle.std.specs.List.{list_all}
 use Rattle.std.specs.Cmp.Lexicographic.{slice_cmp}
@@ -9,7 +9,7 @@ use Rattle.std.specs.declared.cmp.Ordering.TheVariants.{Less, Equal, Greater}
 use Rattle.std.proofs.lemmas.Bool.{false≢true, and_from, leb-true, le-leb}
 use Rattle.sp_value.specs.Names.{names_of}
 use Rattle.sp_value.specs.declared.cell.Cell.{Cell}
-use Rattle.sp_model.specs.Calls.{is_attempt, fit_keys, are_results_of, same_presence, is_lawful_list, is_lawful_parents, is_lawful_get, is_lawful_hydrate, is_lawful_by, function_of, child_call}
+use Rattle.sp_model.specs.Calls.{is_attempt, fit_keys, are_results_of, same_presence, is_lawful_list, is_lawful_parents, is_lawful_get, is_lawful_hydrate, is_lawful_by, function_of}
 use Rattle.sp_model.specs.Conditions.{is_canonical}
 use Rattle.sp_model.specs.Hydration.{put_under, with_result, results_of, find_function, names_of_functions, depends_of}
 use Rattle.sp_model.specs.Keys.{is_equality, is_sent, is_met}

@@ -1,5 +1,5 @@
 -- The form of rows in flight stays.
-use Rattle.std.proofs.Common.{◌≡◌, ◌≤◌, ◌<◌, ◌⊎◌, inl, inr, ℕ, zero, suc, Bool, true, false, List, [], ◌∷◌, ◌++◌, length, get_or, set, map, Option, Some, None, if◌then◌else◌, refl, sym, ap, subst, ◌∙◌, arith}
+use Rattle.std.proofs.Common.{◌≡◌, ◌≤◌, ◌<◌, ◌⊎◌, inl, inr, ℕ, zero, suc, Bool, true, false, List, [], ◌∷◌, length, get_or, set, map, Option, Some, None, if◌then◌else◌, refl, sym, ap, subst, ◌∙◌, arith}
 use Rattle.std.proofs.lemmas.Bool.{cases_eq}
 use Rattle.sp_value.proofs.Computing.{cells, depth-Null}
 use Rattle.sp_value.specs.declared.cell.Cell.{Cell}
@@ -7,7 +7,6 @@ use Rattle.sp_value.specs.declared.cell.Cell.TheVariants as c
 use Rattle.sp_value.specs.declared.cell.Cell.TheOpen.{Cell-F}
 use Rattle.sp_value.specs.declared.cell.Cell.TheViews.{out-Cell}
 use Rattle.sp_model.proofs.Lawful.{again_below}
-use Rattle.sp_model.specs.Delays.{delay_by}
 use Rattle.sp_model.specs.Fields.{or_null}
 use Rattle.sp_model.specs.Sayable.{IsItem, IsObject_at}
 use Rattle.sp_model.specs.Settling.{or_else, Answers, attempts_of, Verdict, Accept, Again, Refuse, Open, judged}

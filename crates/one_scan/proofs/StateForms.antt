@@ -5,7 +5,7 @@ use Rattle.sp_model.specs.Calls.{child_call}
 use Rattle.sp_model.specs.RowOf.{with_cell, column_value, row_of, columns_named}
 use Rattle.sp_model.specs.Sayable.{IsItem}
 use Rattle.sp_model.specs.Settling.{attempts_of, Verdict, Accept, Again, Refuse, Open, judged}
-use Rattle.sp_model.specs.Walk.{meets, is_reached, with_row, with_row_kept, Source, parent_source, parent_of, list_source}
+use Rattle.sp_model.specs.Walk.{meets, is_reached, with_row, with_row_kept, Source, list_source}
 use Rattle.sp_model.proofs.Lawful.{again_below}
 use Rattle.sp_model.specs.declared.call.Ending.{Ending}
 use Rattle.sp_model.specs.declared.call.Piece.{Piece}
@@ -20,14 +20,13 @@ use Rattle.sp_model.specs.declared.outcome.Row.TheVariants.{Whole, Broken}
 use Rattle.sp_model.specs.declared.outcome.Walk.{Walk}
 use Rattle.sp_model.specs.declared.outcome.Walk.TheVariants.{Going, Full, Failed, Waiting}
 use Rattle.sp_model.specs.declared.outcome.WalkState.{WalkState}
-use Rattle.sp_model.specs.declared.scan.Access.TheVariants.{Parents}
 use Rattle.sp_model.specs.declared.scan.ScanRequest.{ScanRequest}
 use Rattle.sp_world.specs.Pieces.{IsSoundPiece}
 use Rattle.scan_laws.specs.Flights.{status}
 use Rattle.scan_laws.specs.Rests.{entry_of}
 use Rattle.scan_laws.specs.States.{Outer, Inner, FlightRow, Scan}
-use Rattle.scan_laws.specs.Steps.{inner_listed, outer_listed, item_came, ending_came, parent_came, parents_ended, inner_past, past, ended_so, inner_again, child_begun, outer_again, flown}
-use Rattle.scan_core.specs.Advances.{row_now, StandsBy, InnerStands, OuterStands, Step, RowDecides, ItemFills, CallEnds, ListBegins, ParentsEnd, NothingIsLeft, Runs, Advances}
+use Rattle.scan_laws.specs.Steps.{inner_listed, outer_listed, item_came, parent_came, inner_past, past, ended_so, inner_again, child_begun, outer_again, flown}
+use Rattle.scan_core.specs.Advances.{StandsBy, InnerStands, OuterStands, Step, RowDecides, ItemFills, CallEnds, ListBegins, ParentsEnd, NothingIsLeft, Runs, Advances}
 use Rattle.scan_core.specs.Calls.{items_source}
 use Rattle.scan_core.specs.Hearing.{inner_heard, outer_heard}
 use Rattle.scan_core.specs.Next.{outer_source}

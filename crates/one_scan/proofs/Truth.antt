@@ -1,24 +1,21 @@
 -- A scan that agrees with the book ends as the book's scan does.
-use Rattle.std.proofs.Common.{◌≡◌, ℕ, zero, suc, Bool, true, false, List, [], ◌∷◌, length, Option, Some, None, IsTrue, refl, sym, ap, subst, ◌∙◌}
+use Rattle.std.proofs.Common.{◌≡◌, ℕ, zero, suc, Bool, true, List, [], ◌∷◌, length, Option, Some, None, IsTrue, refl, sym, ap, subst, ◌∙◌}
 use Rattle.std.specs.Prelude.{slice_get}
 use Rattle.sp_value.specs.declared.cell.Cell.{Cell}
 use Rattle.sp_model.specs.Book.{Book}
-use Rattle.sp_model.specs.Settling.{Answers, answers_of}
-use Rattle.sp_model.specs.Walk.{scan_walk, walk_at, scan_value, is_complete, is_steady}
+use Rattle.sp_model.specs.Settling.{answers_of}
+use Rattle.sp_model.specs.Walk.{walk_at, scan_value, is_complete, is_steady}
 use Rattle.sp_model.specs.declared.call.Version.{Version}
 use Rattle.sp_model.specs.declared.call.Version.TheVariants.{Is, Bad}
 use Rattle.sp_model.specs.declared.outcome.ScanValue.{ScanValue}
 use Rattle.sp_model.specs.declared.outcome.ScanValue.TheVariants as value
-use Rattle.sp_model.specs.declared.outcome.Walk.{Walk}
 use Rattle.sp_model.specs.declared.outcome.Walk.TheVariants.{Going, Full}
-use Rattle.sp_model.specs.declared.scan.Cause.TheVariants.{BadVersion}
 use Rattle.sp_model.specs.declared.declaration.TableDecl.{TableDecl}
 use Rattle.sp_model.specs.declared.scan.Mark.TheVariants.{Fresh}
 use Rattle.sp_world.specs.Kept.{IsKeptForm, IsKeptWalk, IsKeptValue}
 use Rattle.sp_world.specs.declared.kept_scan.KeptScan.{KeptScan}
-use Rattle.decl_words.specs.BookTables.{book_table}
 use Rattle.scan_laws.proofs.Stepping.{result_is}
-use Rattle.scan_laws.specs.Scans.{Agrees, value_of}
+use Rattle.scan_laws.specs.Scans.{value_of}
 use Rattle.scan_core.specs.Courses.{end_view, state_of, table_of}
 use Rattle.scan_core.specs.Hearing.{StandsStill}
 use Rattle.scan_core.specs.declared.course.Course.{Course}

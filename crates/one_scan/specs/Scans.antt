@@ -1,14 +1,11 @@
 -- For the model of a scan: what holds of its parts.
-use Rattle.std.specs.Prelude.{◌≡◌, ◌≤◌, ◌^◌, ℕ, Bool, true, false, List, [], Option, Some, None, IsTrue}
-use Rattle.std.specs.Arc.{arc_value}
+use Rattle.std.specs.Prelude.{◌≡◌, ◌≤◌, ◌^◌, ℕ, Bool, true, false, [], Option, Some, None, IsTrue}
 use Rattle.sp_model.specs.Book.{Book}
 use Rattle.sp_model.specs.Requests.{IsRequestOf}
-use Rattle.sp_model.specs.RowOf.{columns_named}
 use Rattle.sp_model.specs.Sayable.{IsSayableVersion}
 use Rattle.sp_model.specs.Settling.{answers_of}
 use Rattle.sp_model.specs.declared.call.Version.{Version}
 use Rattle.sp_model.specs.declared.call.Version.TheVariants.{Is, Bad}
-use Rattle.sp_model.specs.declared.outcome.Walk.TheVariants.{Failed}
 use Rattle.sp_model.specs.declared.scan.Cause.TheVariants.{BadVersion}
 use Rattle.decl_words.specs.BookTables.{book_table}
 use Rattle.model_laws.specs.LawfulScans.{is_lawful_scan}

@@ -144,13 +144,7 @@ impl<W: World> Scan<W> {
 
     /// Takes in a piece that was told of a call, at this tick, for the seat that waits for it. It is `Late` where no seat waits for it:
     /// the scan is decided, the seat was given back or is of another call, the piece isn't next, or the call isn't listed.
-    pub fn answered(
-        &mut self,
-        alloc: Global,
-        seat: Seat,
-        piece: Told<W, Piece>,
-        tick: u64,
-    ) -> Taken
+    pub fn answered(&mut self, alloc: Global, seat: Seat, piece: Told<W, Piece>, tick: u64) -> Taken
         ensures same { SameScan self.old self.new }
         ensures late { result ≡ taken.Late → self.new ≡ self.old }
         ensures wanting { self.old.wanting ≡ true → result ≡ taken.Memory }
@@ -222,12 +216,6 @@ impl<W: World> Scan<W> {
             asked,
             wanting: _,
         } = self;
-        Ok(Kept::of(kept_scan(
-            scope.request,
-            version,
-            asked,
-            course.walk.rows,
-            complete,
-        )))
+        Ok(Kept::of(kept_scan(scope.request, version, asked, course.walk.rows, complete)))
     }
 }

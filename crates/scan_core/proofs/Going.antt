@@ -1,7 +1,7 @@
 -- Rows in flight that stay, leave and come.
 use Rattle.std.proofs.Common.{◌≡◌, ◌⊎◌, inl, inr, List, [], ◌∷◌, ◌++◌, refl, sym, ap, subst, ◌∙◌}
 use Rattle.sp_value.specs.declared.cell.Cell.{Cell}
-use Rattle.row_flight.specs.Flying.{Seated, InFlight, Puts}
+use Rattle.row_flight.specs.Flying.{Seated, Puts}
 use Rattle.row_flight.specs.Rows.{begun}
 use Rattle.scan_core.specs.Going.{IsIn, GoesOn}
 use Rattle.scan_core.specs.declared.course.Course.{Course}

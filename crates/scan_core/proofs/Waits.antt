@@ -1,9 +1,9 @@
 -- A scan that goes on by no rule waits for its first undecided place.
-use Rattle.std.proofs.Common.{◌≡◌, ◌≤◌, ◌<◌, ◌+◌, ℕ, suc, Bool, true, false, List, [], ◌∷◌, ◌++◌, length, Option, Some, None, if◌then◌else◌, refl, sym, ap, subst, ◌∙◌, arith}
+use Rattle.std.proofs.Common.{◌≡◌, ◌≤◌, ℕ, suc, Bool, true, false, List, [], ◌∷◌, ◌++◌, length, Option, Some, None, if◌then◌else◌, refl, ap, ◌∙◌, arith}
 use Rattle.sp_value.specs.declared.cell.Cell.{Cell}
 use Rattle.sp_model.specs.RowOf.{columns_named}
 use Rattle.sp_model.specs.Settling.{Verdict, Accept, Again, Refuse, Open, judged, is_ignored, is_retried}
-use Rattle.sp_model.specs.Walk.{meets, is_reached, with_row, with_row_kept, parent_source, parent_of}
+use Rattle.sp_model.specs.Walk.{meets, is_reached, with_row, with_row_kept}
 use Rattle.sp_model.specs.declared.call.Condition.{Condition}
 use Rattle.sp_model.specs.declared.call.Ending.{Ending}
 use Rattle.sp_model.specs.declared.call.Ending.TheVariants.{End, Error}
@@ -20,7 +20,7 @@ use Rattle.sp_model.specs.declared.scan.ScanRequest.{ScanRequest}
 use Rattle.scan_laws.specs.Scans.{items_of}
 use Rattle.scan_laws.specs.States.{Outer, Inner, FlightRow, Scan}
 use Rattle.scan_laws.specs.Steps.{in_flight, past, ended_so, inner_accepted, inner_again, child_begun, outer_accepted, outer_again, finished}
-use Rattle.scan_core.specs.Advances.{row_now, StandsBy, is_too_many, InnerStands, OuterStands, Step, RowDecides, ItemFills, CallEnds, ListBegins, ParentsEnd, NothingIsLeft}
+use Rattle.scan_core.specs.Advances.{row_now, StandsBy, is_too_many, InnerStands, OuterStands, RowDecides, ItemFills, CallEnds, ListBegins, ParentsEnd, NothingIsLeft}
 use Rattle.scan_core.specs.Laws.{CallIsOpen, IsOpenBy, StillScanIsOpen}
 use Rattle.scan_core.specs.Next.{IsStill, outer_source}
 

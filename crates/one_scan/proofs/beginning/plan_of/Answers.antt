@@ -1,4 +1,3 @@
-use Rattle.std.proofs.Common.{arith}
 use Rattle.one_scan.proofs.Begun.{sound_rests, sound_few}
 use Rattle.one_scan.proofs.beginning.plan_of.Goals as goal
 

@@ -1,4 +1,4 @@
-use Rattle.std.proofs.Common.{◌≡◌, rules, true, false, None, refl, inl, inr, sym, ◌∙◌}
+use Rattle.std.proofs.Common.{rules, refl, inl, inr, sym, ◌∙◌}
 use Rattle.scan_core.proofs.Seats.{unchanged, none_if, some_if}
 use Rattle.scan_core.proofs.course.Course.answered.Goals as goal
 

@@ -1,4 +1,4 @@
-use Rattle.std.proofs.Common.{◌≡◌, refl, sym, ap, subst, ◌∙◌}
+use Rattle.std.proofs.Common.{◌≡◌, sym, ap, subst, ◌∙◌}
 use Rattle.scan_core.proofs.Seats.{unchanged}
 use Rattle.scan_core.specs.Courses.{state_of}
 use Rattle.scan_core.specs.Hearing.{AwaitsBy, HearsBy, IsUnchanged, seat_of}

@@ -1,6 +1,4 @@
-use Rattle.std.proofs.Common.{ap}
 use Rattle.scan_core.proofs.Listed.{items_lists, items_on, items_kept}
-use Rattle.scan_core.specs.Listing.{ListsNone}
 use Rattle.scan_core.proofs.course.Course.list_items.Goals as goal
 
 pub returns-clause-lists : goal.returns-clause-lists
