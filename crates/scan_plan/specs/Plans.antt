@@ -1,5 +1,5 @@
 -- The one scan of a statement over one plain table, and what is made of its rows.
-use Rattle.std.specs.Prelude.{◌≡◌, ℕ, ◌==◌, ◌&&◌, Bool, false, List, [], ◌∷◌, map, length, Option, Some, None, is_none, Result, Ok, Err, if◌then◌else◌}
+use Rattle.std.specs.Prelude.{◌≡◌, ℕ, ◌==◌, ◌&&◌, Bool, false, List, [], ◌∷◌, map, length, Option, Some, None, is_none, bytes_eq, Result, Ok, Err, if◌then◌else◌}
 use Rattle.sp_value.specs.declared.cell.Cell.{Cell}
 use Rattle.sp_model.specs.PlainList.{is_plain, plain_request}
 use Rattle.sp_model.specs.declared.scan.ScanRequest.{ScanRequest}
@@ -14,9 +14,14 @@ use Rattle.scan_plan.specs.declared.plan.Plan.{Plan}
 use Rattle.scan_plan.specs.declared.plan.PlanFault.{PlanFault}
 use Rattle.scan_plan.specs.declared.plan.PlanFault.TheVariants as fault
 
--- the source, where it is the only one and its table is plain
+-- a connection that stands for itself alone
+abbrev pub is_itself : List (List ℕ) → List ℕ → Bool
+is_itself (member ∷ []) name = bytes_eq member name
+is_itself _ name = false
+
+-- the source, where it is the only one, of a plain connection, and its table is plain
 abbrev pub plain_one : BoundSource → Option BoundSource
-plain_one s = if is_plain s.table then Some s else None
+plain_one s = if is_itself s.members s.connection && is_plain s.table then Some s else None
 
 abbrev pub plain_source : List BoundSource → Option BoundSource
 plain_source (s ∷ []) = plain_one s
@@ -42,7 +47,7 @@ abbrev pub planned : Bound → Option BoundSource → Result Plan PlanFault
 planned b None = Err fault.NotYet
 planned b (Some s) = Ok (plan_by b s)
 
--- the plan of a statement: so far of one source, whose table is plain
+-- the plan of a statement: so far of one source, of a plain connection, whose table is plain
 abbrev pub plan_of : Bound → Result Plan PlanFault
 plan_of b = planned b (plain_source b.sources)
 

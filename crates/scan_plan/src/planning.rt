@@ -4,7 +4,7 @@ ghost use Rattle.std.specs.Prelude.{◌≡◌, map, true, IfOk, IfSome, option_m
 ghost use Rattle.std.specs.List.{list_all};
 ghost use Rattle.sp_model.specs.PlainList.{is_plain_list, has_no_function, has_no_rule, is_without_rule, is_plain};
 ghost use Rattle.scan_plan.specs.Used.{named};
-ghost use Rattle.scan_plan.specs.Plans.{plain_source, pushed_limit, scan_by, making_by, heading_by, plan_by, plan_of, IsUnlessMemory};
+ghost use Rattle.scan_plan.specs.Plans.{is_itself, plain_source, pushed_limit, scan_by, making_by, heading_by, plan_by, plan_of, IsUnlessMemory};
 
 use crate::placing::{keys_of, shown_of, tests_of};
 use crate::plan::{Heading, Making, PlainScan, Plan, PlanFault};
@@ -65,12 +65,22 @@ fn is_plain(table: &TableDecl) -> bool
         && is_without_rule(&table.plugin)
 }
 
+/// Whether a source is of a plain connection, which stands for itself.
+fn is_itself(source: &BoundSource) -> bool
+    ensures { result ≡ is_itself source.now.members source.now.connection }
+{
+    match source.members.as_slice() {
+        [member] => *member == source.connection,
+        _ => false,
+    }
+}
+
 fn plain_source<'a>(sources: &'a [BoundSource]) -> Option<&'a BoundSource>
     ensures value { option_map (λ s. s.now) result ≡ plain_source sources.now }
     ensures plain { IfSome result (λ s. is_plain s.now.table ≡ true) }
 {
     match sources {
-        [source] if is_plain(&source.table) => Some(source),
+        [source] if is_itself(source) && is_plain(&source.table) => Some(source),
         _ => None,
     }
 }
@@ -162,7 +172,7 @@ fn plan_by(alloc: Global, bound: &Bound, source: &BoundSource) -> Result<Plan, M
 }
 
 impl Plan {
-    /// The plan of a statement, where it has one source, whose table is plain.
+    /// The plan of a statement, where it has one source, of a plain connection, whose table is plain.
     pub fn of(alloc: Global, bound: &Bound) -> Result<Plan, PlanFault>
         ensures plan { IsUnlessMemory result (plan_of bound.now) }
         ensures plain { IfOk result (λ p. is_plain p.scan.table ≡ true) }

@@ -1,7 +1,7 @@
 -- The connections of a statement, and what depends on them alone.
-use Rattle.std.proofs.Common.{◌≡◌, ℕ, zero, suc, ◌+◌, ◌<◌, Bool, true, false, ◌||◌, cond, List, [], ◌∷◌, ◌++◌, map, length, take, get_or, Option, Some, None, Result, Ok, Err, IsSome, ◌⊎◌, inl, inr, refl, sym, ap, ◌∙◌, subst, arith}
-use Rattle.std.specs.Prelude.{bytes_eq, is_some, option_map, option_and_then}
-use Rattle.std.specs.List.{list_any, filter_map}
+use Rattle.std.proofs.Common.{◌≡◌, ℕ, zero, suc, ◌+◌, ◌<◌, Bool, true, false, ◌||◌, ◌&&◌, cond, List, [], ◌∷◌, ◌++◌, map, filter, length, take, get_or, Option, Some, None, Result, Ok, Err, IsSome, ◌⊎◌, inl, inr, refl, sym, ap, ◌∙◌, subst, arith}
+use Rattle.std.specs.Prelude.{bytes_eq, option_map}
+use Rattle.std.specs.List.{list_any, filter_map, flat_map}
 use Rattle.std.specs.Option.{option_or}
 use Rattle.std.proofs.Math.Bool.{or-true}
 use Rattle.std.proofs.lemmas.List.{take_more}
@@ -10,22 +10,24 @@ use Rattle.std.proofs.lemmas.Slice.Eq.{bytes_eq-Decides}
 use Rattle.sp_model.specs.Book.{Book}
 use Rattle.sp_model.specs.declared.declaration.Declaration.{Declaration}
 use Rattle.sp_model.specs.declared.declaration.TableDecl.{TableDecl}
+use Rattle.sp_model.specs.declared.settings.Connection.{Connection}
 use Rattle.sp_model.specs.declared.settings.Settings.{Settings}
-use Rattle.sql_grammar.specs.declared.ast.Source.{Source}
 use Rattle.sql_grammar.specs.declared.ast.Statement.{Statement}
 use Rattle.sql_bind.proofs.Declared.{split}
-use Rattle.sql_bind.specs.Answer.{refused_or, with_name, each_once, needed, refused_part, refusal}
+use Rattle.sql_bind.proofs.Agreeing.{binds_by_its_connections}
+use Rattle.sql_bind.specs.Answer.{refused_or, with_name, each_once, connections_named, plain_connections, needed, refused_part, refusal}
 use Rattle.sql_bind.specs.Binding.{source_of, sources_from, bound_by}
 use Rattle.sql_bind.specs.First.{first_of}
 use Rattle.sql_bind.specs.Known.{Known, is_connection, declaration_of}
+use Rattle.sql_bind.specs.Members.{connection_named, members_by, members_named, declared_under}
 use Rattle.sql_bind.specs.Parts.{parts_of}
 use Rattle.sql_bind.specs.Refusals.{place_unless, unknown_connection, unknown_table, ninth_source}
-use Rattle.sql_bind.specs.Sources.{Opened, Seen, opened, seen_by, seen_of, table_of, first_table, with_table}
+use Rattle.sql_bind.specs.Sources.{Opened, Seen, opened, seen_by, seen_of, table_of, with_table}
 use Rattle.sql_bind.specs.declared.bound.Bound.{Bound}
 use Rattle.sql_bind.specs.declared.bound.BoundSource.{BoundSource}
 use Rattle.sql_bind.specs.declared.fault.BindFault.{BindFault}
 use Rattle.sql_bind.specs.declared.fault.BindFault.TheVariants as bind
-use Rattle.scan_plan.specs.Plans.{plain_one, plain_source, plan_by, plan_of}
+use Rattle.scan_plan.specs.Plans.{is_itself, plain_one, plain_source, plan_by, plan_of}
 use Rattle.scan_plan.specs.Plans as plans
 use Rattle.scan_plan.specs.declared.plan.Plan.{Plan}
 use Rattle.scan_plan.specs.declared.plan.PlanFault.{PlanFault}
@@ -109,12 +111,63 @@ from_once (n ∷ ns) found name h = elim (either_true (is_in name (with_name fou
   | inr is ↦ or_right (is_in name found) (bytes_eq name n || is_in name ns) (or_right (bytes_eq name n) (is_in name ns) is)
 ]
 
+-- ---- members
+
+in_filter : (f : List ℕ → Bool) (names : List (List ℕ)) (name : List ℕ) → is_in name (filter f names) ≡ true → f name ≡ true
+in_filter f [] name there = absurd (cc)
+in_filter f (n ∷ ns) name there = elim (split (f n)) [
+  | inl is ↦ elim (either_true (bytes_eq name n) (is_in name (filter f ns)) (rw is at there)) [
+    | inl it ↦ let same : name ≡ n = (bytes_eq-Decides name n).0 it in rw same is
+    | inr later ↦ in_filter f ns name later
+  ]
+  | inr is ↦ in_filter f ns name (rw is at there)
+]
+
+itself : (name : List ℕ) → bytes_eq name name ≡ true
+itself name = (bytes_eq-Decides name name).1 refl
+
+in_one : (settings : Settings) (n name : List ℕ) → is_connection settings n ≡ true → is_in name (n ∷ []) ≡ true → is_connection settings name ≡ true
+in_one settings n name known there = elim (either_true (bytes_eq name n) false there) [
+  | inl is ↦ let same : name ≡ n = (bytes_eq-Decides name n).0 is in rw same known
+  | inr no_more ↦ absurd (cc)
+]
+
+in_by : (settings : Settings) (n name : List ℕ) (o : Option Connection) → is_connection settings n ≡ true → is_in name (members_by settings n o) ≡ true → is_connection settings name ≡ true
+in_by settings n name None known there = in_one settings n name known there
+in_by settings n name (Some c) known there = in_either c.aggregator there
+  where
+    in_either : (b : Bool) → is_in name (cond b (filter (is_connection settings) c.members) (n ∷ [])) ≡ true → is_connection settings name ≡ true
+    in_either true there = in_filter (is_connection settings) c.members name there
+    in_either false there = in_one settings n name known there
+
+abbrev members_in : Settings → List (List ℕ) → List (List ℕ)
+members_in settings names = flat_map (members_named settings) names
+
+-- members of connections are connections
+in_members : (settings : Settings) (names : List (List ℕ)) → AreConnections settings names → AreConnections settings (members_in settings names)
+in_members settings [] known name there = absurd (cc)
+in_members settings (n ∷ ns) known name there =
+    elim (either_true (is_in name (members_named settings n)) (is_in name (members_in settings ns)) (sym (list_any-append (bytes_eq name) (members_named settings n) (members_in settings ns)) ∙ there)) [
+      | inl here ↦ in_by settings n name (connection_named settings n) (known n (or_left (bytes_eq n n) (is_in n ns) (itself n))) here
+      | inr later ↦ in_members settings ns (λ other is. known other (or_right (bytes_eq other n) (is_in other ns) is)) name later
+    ]
+
+member_there : (settings : Settings) (names : List (List ℕ)) (n name : List ℕ) → is_in n names ≡ true → is_in name (members_named settings n) ≡ true → is_in name (members_in settings names) ≡ true
+member_there settings [] n name there member = absurd (cc)
+member_there settings (m ∷ ms) n name there member =
+    list_any-append (bytes_eq name) (members_named settings m) (members_in settings ms) ∙ elim (either_true (bytes_eq n m) (is_in n ms) there) [
+      | inl is ↦
+          let same : n ≡ m = (bytes_eq-Decides n m).0 is in
+          or_left (is_in name (members_named settings m)) (is_in name (members_in settings ms)) (subst (λ (x : List ℕ). is_in name (members_named settings x) ≡ true) same member)
+      | inr later ↦ or_right (is_in name (members_named settings m)) (is_in name (members_in settings ms)) (member_there settings ms n name later member)
+    ]
+
 -- ---- the connections that are needed
 
 -- what a statement that needs connections says of them
 pub record Known_of (settings : Settings) (s : Statement) (cs : List (List ℕ)) : Type 0 where
   pub none : unknown_connection settings s ≡ None
-  pub same : cs ≡ each_once [] (names_of (opened s))
+  pub same : cs ≡ plain_connections settings s
 
 needed_by : (o : Option ℕ) (names cs : List (List ℕ)) → refused_or (option_map bind.UnknownConnection o) names ≡ Ok cs → (o ≡ None) × (cs ≡ names)
 needed_by (Some p) names cs h = absurd (cc)
@@ -122,7 +175,7 @@ needed_by None names cs h = (refl, cc)
 
 pub known_of : (settings : Settings) (s : Statement) (cs : List (List ℕ)) → needed settings s ≡ Ok cs → Known_of settings s cs
 known_of settings s cs h =
-    let parts = needed_by (unknown_connection settings s) (each_once [] (names_of (opened s))) cs h in
+    let parts = needed_by (unknown_connection settings s) (plain_connections settings s) cs h in
     record { none = parts.0; same = parts.1 }
 
 unless_none : (b : Bool) (place : ℕ) → place_unless b place ≡ None → b ≡ true
@@ -148,12 +201,12 @@ all_known settings (o ∷ os) h name there =
 pub are_connections : (settings : Settings) (s : Statement) (cs : List (List ℕ)) → needed settings s ≡ Ok cs → AreConnections settings cs
 are_connections settings s cs h name there =
     let known = known_of settings s cs h in
-    all_known settings (opened s) known.none name (from_once (names_of (opened s)) [] name (subst (λ (ns : List (List ℕ)). is_in name ns ≡ true) known.same there))
+    let named : AreConnections settings (connections_named s) = λ n is. all_known settings (opened s) known.none n (from_once (names_of (opened s)) [] n is) in
+    in_members settings (connections_named s) named name
+    (from_once (members_in settings (connections_named s)) [] name (subst (λ (ns : List (List ℕ)). is_in name ns ≡ true) known.same there))
 
-pub opened_needed : (settings : Settings) (s : Statement) (cs : List (List ℕ)) → needed settings s ≡ Ok cs → (name : List ℕ) → is_in name (names_of (opened s)) ≡ true → is_in name cs ≡ true
-opened_needed settings s cs h name there =
-    let known = known_of settings s cs h in
-    subst (λ (ns : List (List ℕ)). is_in name ns ≡ true) (sym known.same) (once_there (names_of (opened s)) [] name there)
+pub plain_needed : (settings : Settings) (s : Statement) (cs : List (List ℕ)) → needed settings s ≡ Ok cs → (name : List ℕ) → is_in name (plain_connections settings s) ≡ true → is_in name cs ≡ true
+plain_needed settings s cs h name there = subst (λ (ns : List (List ℕ)). is_in name ns ≡ true) (sym (known_of settings s cs h).same) there
 
 -- ---- a statement's plan depends on the declarations of its connections alone
 
@@ -163,53 +216,14 @@ Declares = List ℕ → Option Declaration
 abbrev Agree : Declares → Declares → List (List ℕ) → Type 0
 Agree d e names = (name : List ℕ) → is_in name names ≡ true → d name ≡ e name
 
-itself : (name : List ℕ) → bytes_eq name name ≡ true
-itself name = (bytes_eq-Decides name name).1 refl
+pub plans_agree : (settings : Settings) (d e : Declares) (s : Statement) → Agree d e (plain_connections settings s) → planned settings d s ≡ planned settings e s
+plans_agree settings d e s h = ap bound_or (binds_by_its_connections settings d e s h)
 
-first_agrees : (d e : Declares) (o : Opened) (os : List Opened) → Agree d e (names_of (o ∷ os)) → d (connection_of o) ≡ e (connection_of o)
-first_agrees d e o os h = h (connection_of o) (or_left (bytes_eq (connection_of o) (connection_of o)) (is_in (connection_of o) (names_of os)) (itself (connection_of o)))
-
-later_agree : (d e : Declares) (o : Opened) (os : List Opened) → Agree d e (names_of (o ∷ os)) → Agree d e (names_of os)
-later_agree d e o os h name there = h name (or_right (bytes_eq name (connection_of o)) (is_in name (names_of os)) there)
-
-table_agrees : (d e : Declares) (source : Source) → d source.connection.text ≡ e source.connection.text → table_of d source ≡ table_of e source
-table_agrees d e source h = ap (option_and_then (λ (x : Declaration). first_table source.table.text x.tables)) h
+-- ---- the connection of a plan
 
 abbrev add : Option Seen → List Seen → List Seen
 add (Some seen) more = seen ∷ more
 add None more = more
-
-filter_step : (f : Opened → Option Seen) (o : Opened) (os : List Opened) → filter_map f (o ∷ os) ≡ add (f o) (filter_map f os)
-filter_step f o os = refl
-
-seen_agree : (d e : Declares) (os : List Opened) → Agree d e (names_of os) → filter_map (seen_by d) os ≡ filter_map (seen_by e) os
-seen_agree d e [] h = refl
-seen_agree d e (o ∷ os) h =
-    let here : seen_by d o ≡ seen_by e o = ap (option_map (with_table o)) (table_agrees d e o.source (first_agrees d e o os h)) in
-    filter_step (seen_by d) o os
-    ∙ ap (λ x. add x (filter_map (seen_by d) os)) here
-    ∙ ap (add (seen_by e o)) (seen_agree d e os (later_agree d e o os h))
-    ∙ sym (filter_step (seen_by e) o os)
-
-abbrev lacks : Declares → Opened → Option ℕ
-lacks d o = place_unless (is_some (table_of d o.source)) o.source.table.place
-
-tables_agree : (d e : Declares) (os : List Opened) → Agree d e (names_of os) → first_of (lacks d) os ≡ first_of (lacks e) os
-tables_agree d e [] h = refl
-tables_agree d e (o ∷ os) h =
-    let here : lacks d o ≡ lacks e o = ap (λ t. place_unless (is_some t) o.source.table.place) (table_agrees d e o.source (first_agrees d e o os h)) in
-    ap (λ x. option_or x (first_of (lacks d) os)) here ∙ ap (option_or (lacks e o)) (tables_agree d e os (later_agree d e o os h))
-
-pub plans_agree : (settings : Settings) (d e : Declares) (s : Statement) → Agree d e (names_of (opened s)) → planned settings d s ≡ planned settings e s
-plans_agree settings d e s h =
-    let seen : seen_of d s ≡ seen_of e s = seen_agree d e (opened s) h in
-    let tables : unknown_table d s ≡ unknown_table e s = tables_agree d e (opened s) h in
-    ap (λ all. bound_or (refused_or (option_or (option_map bind.UnknownConnection (unknown_connection settings s))
-    (option_or (option_map bind.UnknownTable (unknown_table d s)) (option_or (refused_part (parts_of all s)) (option_map bind.TooManyTables (ninth_source s))))) (bound_by all s))) seen
-    ∙ ap (λ t. bound_or (refused_or (option_or (option_map bind.UnknownConnection (unknown_connection settings s))
-    (option_or (option_map bind.UnknownTable t) (option_or (refused_part (parts_of (seen_of e s) s)) (option_map bind.TooManyTables (ninth_source s))))) (bound_by (seen_of e s) s))) tables
-
--- ---- the connection of a plan
 
 seen_first : (d : Declares) (o : Opened) (os : List Opened) (seen : Seen) (more : List Seen) (t : Option TableDecl)
     → (filter_map (seen_by d) os ≡ seen ∷ more → is_in seen.source.connection.text (names_of os) ≡ true)
@@ -227,18 +241,30 @@ seen_opened : (d : Declares) (os : List Opened) (seen : Seen) (more : List Seen)
 seen_opened d [] seen more h = absurd (cc)
 seen_opened d (o ∷ os) seen more h = seen_first d o os seen more (table_of d o.source) (seen_opened d os seen more) h
 
-one_plain : (b : BoundSource) (x : BoundSource) → plain_one b ≡ Some x → x.connection ≡ b.connection
-one_plain b x h = plain_by (is_plain b.table) h
-  where
-    plain_by : (plain : Bool) → cond plain (Some b) None ≡ Some x → x.connection ≡ b.connection
-    plain_by true e = cc
-    plain_by false e = absurd (cc)
+-- a connection that stands for itself is its one member
+one_itself : (members : List (List ℕ)) (name : List ℕ) → is_itself members name ≡ true → is_in name members ≡ true
+one_itself [] name h = absurd (cc)
+one_itself (m ∷ []) name h = let same : m ≡ name = (bytes_eq-Decides m name).0 h in or_left (bytes_eq name m) false ((bytes_eq-Decides name m).1 (sym same))
+one_itself (m ∷ n ∷ ns) name h = absurd (cc)
 
-source_opened : (d : Declares) (s : Statement) (all : List Seen) (x : BoundSource) → seen_of d s ≡ all → plain_source (sources_from all 0 all) ≡ Some x → is_in x.connection (names_of (opened s)) ≡ true
-source_opened d s [] x same h = absurd (cc)
-source_opened d s (seen ∷ []) x same h =
-    subst (λ (n : List ℕ). is_in n (names_of (opened s)) ≡ true) (sym (one_plain (source_of (seen ∷ []) seen) x h)) (seen_opened d (opened s) seen [] same)
-source_opened d s (seen ∷ other ∷ more) x same h = absurd (cc)
+one_plain : (b : BoundSource) (x : BoundSource) → plain_one b ≡ Some x → is_in x.connection b.members ≡ true
+one_plain b x h = plain_by (is_itself b.members b.connection) (is_plain b.table) (one_itself b.members b.connection) h
+  where
+    plain_by : (own plain : Bool) → (own ≡ true → is_in b.connection b.members ≡ true) → cond (own && plain) (Some b) None ≡ Some x → is_in x.connection b.members ≡ true
+    plain_by true true member e = let same : b ≡ x = cc in subst (λ (y : BoundSource). is_in y.connection b.members ≡ true) same (member refl)
+    plain_by true false member e = absurd (cc)
+    plain_by false plain member e = absurd (cc)
+
+source_opened : (settings : Settings) (d : Declares) (s : Statement) (all : List Seen) (x : BoundSource) → seen_of d s ≡ all → plain_source (sources_from settings all 0 all) ≡ Some x
+    → is_in x.connection (plain_connections settings s) ≡ true
+source_opened settings d s [] x same h = absurd (cc)
+source_opened settings d s (seen ∷ []) x same h =
+    let name = seen.source.connection.text in
+    once_there (members_in settings (connections_named s)) [] x.connection
+    (member_there settings (connections_named s) name x.connection
+    (once_there (names_of (opened s)) [] name (seen_opened d (opened s) seen [] same))
+    (one_plain (source_of settings (seen ∷ []) seen) x h))
+source_opened settings d s (seen ∷ other ∷ more) x same h = absurd (cc)
 
 plan_source : (b : Bound) (o : Option BoundSource) (p : Plan) → planned_or (plans.planned b o) ≡ Ok p → (x : BoundSource) × (o ≡ Some x) × (p.scan.connection ≡ x.connection)
 plan_source b None p h = absurd (cc)
@@ -247,21 +273,21 @@ plan_source b (Some x) p h = (x, refl, ap (λ (q : Plan). q.scan.connection) (sa
     same_plan : (p q : Plan) → ◌≡◌ {A = Result Plan BlockFault} (Ok q) (Ok p) → p ≡ q
     same_plan p q e = cc
 
-plan_from : (b : Bound) (d : Declares) (s : Statement) (p : Plan) → b ≡ bound_by (seen_of d s) s
-    → ((x : BoundSource) × (plain_source b.sources ≡ Some x) × (p.scan.connection ≡ x.connection)) → is_in p.scan.connection (names_of (opened s)) ≡ true
-plan_from b d s p same found =
-    subst (λ (n : List ℕ). is_in n (names_of (opened s)) ≡ true) (sym found.2)
-    (source_opened d s (seen_of d s) found.0 refl (ap (λ (c : Bound). plain_source c.sources) (sym same) ∙ found.1))
+plan_from : (settings : Settings) (b : Bound) (d : Declares) (s : Statement) (p : Plan) → b ≡ bound_by settings (seen_of d s) s
+    → ((x : BoundSource) × (plain_source b.sources ≡ Some x) × (p.scan.connection ≡ x.connection)) → is_in p.scan.connection (plain_connections settings s) ≡ true
+plan_from settings b d s p same found =
+    subst (λ (n : List ℕ). is_in n (plain_connections settings s) ≡ true) (sym found.2)
+    (source_opened settings d s (seen_of d s) found.0 refl (ap (λ (c : Bound). plain_source c.sources) (sym same) ∙ found.1))
 
-plan_bound : (b : Bound) (d : Declares) (s : Statement) (p : Plan) → b ≡ bound_by (seen_of d s) s → planned_or (plan_of b) ≡ Ok p → is_in p.scan.connection (names_of (opened s)) ≡ true
-plan_bound b d s p same h = plan_from b d s p same (plan_source b (plain_source b.sources) p h)
+plan_by_bound : (settings : Settings) (r : Option BindFault) (b : Bound) (d : Declares) (s : Statement) (p : Plan) → b ≡ bound_by settings (seen_of d s) s → bound_or (refused_or r b) ≡ Ok p
+    → is_in p.scan.connection (plain_connections settings s) ≡ true
+plan_by_bound settings (Some f) b d s p same h = absurd (cc)
+plan_by_bound settings None b d s p same h = plan_from settings b d s p same (plan_source b (plain_source b.sources) p h)
 
-plan_by_bound : (r : Option BindFault) (b : Bound) (d : Declares) (s : Statement) (p : Plan) → b ≡ bound_by (seen_of d s) s → bound_or (refused_or r b) ≡ Ok p → is_in p.scan.connection (names_of (opened s)) ≡ true
-plan_by_bound (Some f) b d s p same h = absurd (cc)
-plan_by_bound None b d s p same h = plan_bound b d s p same h
-
-pub plan_opened : (settings : Settings) (d : Declares) (s : Statement) (p : Plan) → planned settings d s ≡ Ok p → is_in p.scan.connection (names_of (opened s)) ≡ true
-plan_opened settings d s p h = plan_by_bound (refusal settings d (seen_of d s) s) (bound_by (seen_of d s) s) d s p refl h
+pub plan_opened : (settings : Settings) (d : Declares) (s : Statement) (p : Plan) → planned settings d s ≡ Ok p → is_in p.scan.connection (plain_connections settings s) ≡ true
+plan_opened settings d s p h =
+    let under = declared_under settings d in
+    plan_by_bound settings (refusal settings under (seen_of under s) s) (bound_by settings (seen_of under s) s) under s p refl h
 
 -- ---- what is told
 
@@ -304,11 +330,12 @@ part_past None None None g e = absurd (cc)
 pub past_names : (settings : Settings) (d : Declares) (s : Statement) (cs : List (List ℕ)) (f : BlockFault) → needed settings s ≡ Ok cs → planned settings d s ≡ Err f → IsPastNames (end.Refused f)
 past_names settings d s cs f h e =
     let known = known_of settings s cs h in
-    let all = seen_of d s in
-    past_by (unknown_table d s) None (ninth_source s) (refused_part (parts_of all s)) (bound_by all s) f
+    let under = declared_under settings d in
+    let all = seen_of under s in
+    past_by (unknown_table under s) None (ninth_source s) (refused_part (parts_of all s)) (bound_by settings all s) f
     (λ g is. part_past _ _ _ g is)
     (sym (ap (λ u. bound_or (refused_or (option_or (option_map bind.UnknownConnection u)
-    (option_or (option_map bind.UnknownTable (unknown_table d s)) (option_or (refused_part (parts_of all s)) (option_map bind.TooManyTables (ninth_source s))))) (bound_by all s))) known.none) ∙ e)
+    (option_or (option_map bind.UnknownTable (unknown_table under s)) (option_or (refused_part (parts_of all s)) (option_map bind.TooManyTables (ninth_source s))))) (bound_by settings all s))) known.none) ∙ e)
 
 -- ---- a declaration is set
 

@@ -6,14 +6,13 @@ use Rattle.sql_grammar.specs.declared.ast.Statement.{Statement}
 use Rattle.sql_lex.specs.Lex.{tokens}
 use Rattle.sql_grammar.specs.Grammar.{StatementPhrase}
 use Rattle.sql_grammar.specs.Theorem.{depth}
-use Rattle.sql_bind.specs.Answer.{needed}
+use Rattle.sql_bind.specs.Answer.{needed, plain_connections}
 use Rattle.sql_bind.specs.Known.{Known, is_connection, declaration_of}
-use Rattle.sql_bind.specs.Sources.{opened}
 use Rattle.sql_bind.specs.declared.fault.BindFault.{BindFault}
 use Rattle.scan_plan.specs.declared.plan.Plan.{Plan}
 use Rattle.session_core.specs.Answers.{plain_answer, declarations, planned, by_planned, by_declarations, by_needed, IsAsDefined, IsAnswer, IsTold, AllDeclared}
 use Rattle.session_core.specs.Scans.{AreUndeclared, IsUnplanned, IsUnknown, IsScanAnswer, IsPlanAnswer, IsReadAnswer}
-use Rattle.session_core.proofs.NameLaws.{is_in, names_of, are_connections, opened_needed, plans_agree, plan_opened, told_agree, none_bad}
+use Rattle.session_core.proofs.NameLaws.{is_in, are_connections, plain_needed, plans_agree, plan_opened, told_agree, none_bad}
 use Rattle.session_core.specs.declared.answer.Answer.{Answer}
 use Rattle.session_core.specs.declared.answer.AnswerEnd.{AnswerEnd}
 use Rattle.session_core.specs.declared.answer.AnswerEnd.TheVariants as end
@@ -52,7 +51,7 @@ by_plans : (book : Book) (settings : Settings) (s : Statement) (began asked : �
 by_plans book settings s began asked cs known is same told all =
     ap (by_declarations book settings s began asked) (none_bad book known cs told all)
     ∙ ap (by_planned book began asked) (sym (plans_agree settings (declaration_of known) (declarations book) s
-    (told_agree book known (names_of (opened s)) told (λ name there. all name (opened_needed settings s cs is name there)))))
+    (told_agree book known (plain_connections settings s) told (λ name there. all name (plain_needed settings s cs is name there)))))
     ∙ ap (λ x. by_planned book began asked (planned x (declaration_of known) s)) (sym same)
 
 unplanned_same : (book : Book) (began : ℕ) (cs : List (List ℕ)) (r : Result Plan BlockFault) (e : AnswerEnd) → IsUnplanned r e
@@ -80,23 +79,25 @@ planned_same cs connection answer (end.Rows rows) defined there h = h
 planned_same cs connection answer (end.Refused f) defined there h = h
 planned_same cs connection answer (end.ScanFailed scan row column cause) defined there h = h
 
-pub plan_needed : (settings : Settings) (s : Statement) (cs : List (List ℕ)) (known : Known) (p : Plan) → needed settings s ≡ Ok cs
+pub plan_needed : (settings : Settings) (s : Statement) (cs : List (List ℕ)) (known : Known) (p : Plan) → needed settings s ≡ Ok cs → known.settings ≡ settings
     → planned known.settings (declaration_of known) s ≡ Ok p → is_in p.scan.connection cs ≡ true
-plan_needed settings s cs known p is h = opened_needed settings s cs is p.scan.connection (plan_opened known.settings (declaration_of known) s p h)
+plan_needed settings s cs known p is same h =
+    plain_needed settings s cs is p.scan.connection
+    (subst (λ x. is_in p.scan.connection (plain_connections x s) ≡ true) same (plan_opened known.settings (declaration_of known) s p h))
 
 pub planned_answer_is : (book : Book) (settings : Settings) (s : Statement) (began : ℕ) (cs : List (List ℕ)) (known : Known) (p : Plan) (answer : Answer) → needed settings s ≡ Ok cs
     → known.settings ≡ settings → IsTold book known → AllDeclared known cs → planned known.settings (declaration_of known) s ≡ Ok p
     → IsPlanAnswer book p began answer → IsReadAnswer book settings s began answer
 planned_answer_is book settings s began cs known p answer is same told all h t =
     read_so book settings s began t.asked cs answer is t.later
-    (planned_same cs p.scan.connection answer answer.end (by_needed book settings s began t.asked (Ok cs)) (plan_needed settings s cs known p is h)
+    (planned_same cs p.scan.connection answer answer.end (by_needed book settings s began t.asked (Ok cs)) (plan_needed settings s cs known p is same h)
     (subst (IsScanAnswer p.scan.connection answer answer.end)
     (sym (by_plans book settings s began t.asked cs known is same told all ∙ ap (by_planned book began t.asked) h)) t.same))
 
 pub plan_known : (settings : Settings) (s : Statement) (cs : List (List ℕ)) (known : Known) (p : Plan) → needed settings s ≡ Ok cs → known.settings ≡ settings
     → planned known.settings (declaration_of known) s ≡ Ok p → is_connection known.settings p.scan.connection ≡ true
 plan_known settings s cs known p is same h =
-    subst (λ x. is_connection x p.scan.connection ≡ true) (sym same) (are_connections settings s cs is p.scan.connection (plan_needed settings s cs known p is h))
+    subst (λ x. is_connection x p.scan.connection ≡ true) (sym same) (are_connections settings s cs is p.scan.connection (plan_needed settings s cs known p is same h))
 
 -- ---- a connection that isn't known
 

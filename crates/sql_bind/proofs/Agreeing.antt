@@ -1,7 +1,7 @@
 -- What is bound depends on the declarations of the connections that the statement needs, and on no other.
 use Rattle.std.proofs.Common.{◌≡◌, ℕ, List, [], ◌∷◌, ◌++◌, map, refl, ap, ◌∙◌, inl, inr}
-use Rattle.std.specs.Prelude.{true, Option, Result, bytes_eq, is_some, option_and_then, option_map}
-use Rattle.std.specs.List.{list_any, filter_map, cons_option}
+use Rattle.std.specs.Prelude.{true, Option, Result, bytes_eq, is_some, slice_get, option_and_then, option_map}
+use Rattle.std.specs.List.{list_any, flat_map, filter_map, cons_option}
 use Rattle.std.specs.Option.{option_or}
 use Rattle.std.proofs.Math.Bool.{or-true}
 use Rattle.std.proofs.lemmas.Slice.Eq.{bytes_eq-Decides}
@@ -9,9 +9,10 @@ use Rattle.sp_model.specs.declared.declaration.Declaration.{Declaration}
 use Rattle.sp_model.specs.declared.declaration.TableDecl.{TableDecl}
 use Rattle.sp_model.specs.declared.settings.Settings.{Settings}
 use Rattle.sql_grammar.specs.declared.ast.Statement.{Statement}
-use Rattle.sql_bind.specs.Answer.{BindsByItsConnections, connections_named, refused_part, refused_or, each_once, with_name}
+use Rattle.sql_bind.specs.Answer.{BindsByItsConnections, connections_named, plain_connections, refused_part, refused_or, each_once, with_name, bound_with}
 use Rattle.sql_bind.specs.Binding.{bound_by}
 use Rattle.sql_bind.specs.First.{first_of}
+use Rattle.sql_bind.specs.Members.{members_named, declared_under}
 use Rattle.sql_bind.specs.Parts.{parts_of}
 use Rattle.sql_bind.specs.Refusals.{place_unless, table_place, unknown_connection, unknown_table, ninth_source}
 use Rattle.sql_bind.specs.Sources.{Opened, Seen, opened, first_table, with_table, seen_by, seen_of, table_of}
@@ -91,21 +92,42 @@ same_seen f g (o ∷ os) agree =
     ap (λ table. cons_option (option_map (with_table o) table) (filter_map (seen_by f) os)) (same_table f g o agree.0)
     ∙ ap (cons_option (seen_by g o)) (same_seen f g os agree.1)
 
-abbrev pub bound_with : Settings → Statement → Option ℕ → List Seen → Result Bound BindFault
-bound_with settings s unknown seen =
+abbrev pub bound_when : Settings → Statement → Option ℕ → List Seen → Result Bound BindFault
+bound_when settings s unknown seen =
     refused_or (option_or (option_map fault.UnknownConnection (unknown_connection settings s))
     (option_or (option_map fault.UnknownTable unknown)
     (option_or (refused_part (parts_of seen s))
-    (option_map fault.TooManyTables (ninth_source s))))) (bound_by seen s)
+    (option_map fault.TooManyTables (ninth_source s))))) (bound_by settings seen s)
 
 each_of : (P : List ℕ → Type 0) (names : List (List ℕ)) → ((name : List ℕ) → list_any (bytes_eq name) names ≡ true → P name) → Each P names
 each_of P [] holds = tt
 each_of P (n ∷ ns) holds =
     (holds n (rw ((bytes_eq-Decides n n).1 refl) refl), each_of P ns (λ name there. holds name (rw (there, or-true (bytes_eq name n)) refl)))
 
--- declarations that agree on the connections that the sources name bind a statement alike
+-- ---- members
+
+first_agrees : (f g : List ℕ → Option Declaration) (names : List (List ℕ)) → Each (AgreeAt f g) names
+    → option_and_then f (slice_get names 0) ≡ option_and_then g (slice_get names 0)
+first_agrees f g [] all = refl
+first_agrees f g (n ∷ ns) all = all.0
+
+agree_under : (settings : Settings) (f g : List ℕ → Option Declaration) (names : List (List ℕ)) → Each (AgreeAt f g) (flat_map (members_named settings) names)
+    → Each (AgreeAt (declared_under settings f) (declared_under settings g)) names
+agree_under settings f g [] all = tt
+agree_under settings f g (n ∷ ns) all =
+    (first_agrees f g (members_named settings n) (each_front (AgreeAt f g) (members_named settings n) (flat_map (members_named settings) ns) all),
+    agree_under settings f g ns (each_back (AgreeAt f g) (members_named settings n) (flat_map (members_named settings) ns) all))
+
+bound_alike : (settings : Settings) (f g : List ℕ → Option Declaration) (s : Statement) → Each (AgreeAt f g) (names_of (opened s)) → bound_with settings f s ≡ bound_with settings g s
+bound_alike settings f g s all =
+    ap (λ unknown. bound_when settings s unknown (seen_of f s)) (same_place f g (opened s) all)
+    ∙ ap (bound_when settings s (unknown_table g s)) (same_seen f g (opened s) all)
+
+-- declarations that agree on the plain connections that a statement needs bind it alike
 pub binds_by_its_connections : BindsByItsConnections
 binds_by_its_connections settings f g s agree =
-    let all : Each (AgreeAt f g) (names_of (opened s)) = each_name (AgreeAt f g) [] (names_of (opened s)) (each_of (AgreeAt f g) (connections_named s) agree) in
-    ap (λ unknown. bound_with settings s unknown (seen_of f s)) (same_place f g (opened s) all)
-    ∙ ap (bound_with settings s (unknown_table g s)) (same_seen f g (opened s) all)
+    let plain = flat_map (members_named settings) (connections_named s) in
+    let all : Each (AgreeAt f g) plain = each_name (AgreeAt f g) [] plain (each_of (AgreeAt f g) (plain_connections settings s) agree) in
+    let named : Each (AgreeAt (declared_under settings f) (declared_under settings g)) (connections_named s) = agree_under settings f g (connections_named s) all in
+    bound_alike settings (declared_under settings f) (declared_under settings g) s
+    (each_name (AgreeAt (declared_under settings f) (declared_under settings g)) [] (names_of (opened s)) named)

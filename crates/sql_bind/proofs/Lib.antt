@@ -3,3 +3,4 @@ pub mod Firsts
 pub mod TestLaws
 pub mod BoundLaws
 pub mod Agreeing
+pub mod Onces

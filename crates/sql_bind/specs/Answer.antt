@@ -1,12 +1,13 @@
 -- What binding answers.
 use Rattle.std.specs.Prelude.{◌≡◌, ℕ, true, List, [], ◌∷◌, ◌++◌, map, bytes_eq, Option, Some, None, option_map, Result, Ok, Err, if◌then◌else◌}
-use Rattle.std.specs.List.{list_any}
+use Rattle.std.specs.List.{list_any, flat_map}
 use Rattle.std.specs.Option.{option_or}
 use Rattle.sp_model.specs.declared.declaration.Declaration.{Declaration}
 use Rattle.sp_model.specs.declared.settings.Settings.{Settings}
 use Rattle.sql_grammar.specs.declared.ast.Statement.{Statement}
 use Rattle.sql_bind.specs.Binding.{bound_by}
 use Rattle.sql_bind.specs.First.{first_of}
+use Rattle.sql_bind.specs.Members.{members_named, declared_under}
 use Rattle.sql_bind.specs.Parts.{Part, parts_of}
 use Rattle.sql_bind.specs.Refusals.{unknown_connection, unknown_table, broken, ninth_source}
 use Rattle.sql_bind.specs.Sources.{Seen, opened, seen_of}
@@ -38,9 +39,13 @@ each_once found (name ∷ names) = each_once (with_name found name) names
 abbrev pub connections_named : Statement → List (List ℕ)
 connections_named s = each_once [] (map (λ o. o.source.connection.text) (opened s))
 
--- the connections that a statement needs, or the first one that the settings don't have
+-- with members in place of aggregators
+abbrev pub plain_connections : Settings → Statement → List (List ℕ)
+plain_connections settings s = each_once [] (flat_map (members_named settings) (connections_named s))
+
+-- the plain connections that a statement needs, or the first connection that the settings don't have
 abbrev pub needed : Settings → Statement → Result (List (List ℕ)) BindFault
-needed settings s = refused_or (option_map fault.UnknownConnection (unknown_connection settings s)) (connections_named s)
+needed settings s = refused_or (option_map fault.UnknownConnection (unknown_connection settings s)) (plain_connections settings s)
 
 -- ---- statements
 
@@ -59,12 +64,17 @@ refusal settings declarations seen s =
     (option_or (refused_part (parts_of seen s))
     (option_map fault.TooManyTables (ninth_source s))))
 
--- the statement with columns in place of names, or the first refusal, by the settings and the declarations of connections
-abbrev pub bound : Settings → (List ℕ → Option Declaration) → Statement → Result Bound BindFault
-bound settings declarations s = refused_or (refusal settings declarations (seen_of declarations s) s) (bound_by (seen_of declarations s) s)
+abbrev pub bound_with : Settings → (List ℕ → Option Declaration) → Statement → Result Bound BindFault
+bound_with settings declarations s =
+    refused_or (refusal settings declarations (seen_of declarations s) s) (bound_by settings (seen_of declarations s) s)
 
--- what is bound depends on the declarations of the connections that the sources name, and on no other
+-- the statement with columns in place of names, or the first refusal, by the settings and the declarations of plain connections; an aggregator
+-- declares what its first member does
+abbrev pub bound : Settings → (List ℕ → Option Declaration) → Statement → Result Bound BindFault
+bound settings declarations s = bound_with settings (declared_under settings declarations) s
+
+-- what is bound depends on the declarations of the plain connections that the statement needs, and on no other
 abbrev pub BindsByItsConnections : Type 0
 BindsByItsConnections = (settings : Settings) (declarations others : List ℕ → Option Declaration) (s : Statement)
-    → ((name : List ℕ) → list_any (bytes_eq name) (connections_named s) ≡ true → declarations name ≡ others name)
+    → ((name : List ℕ) → list_any (bytes_eq name) (plain_connections settings s) ≡ true → declarations name ≡ others name)
     → bound settings declarations s ≡ bound settings others s

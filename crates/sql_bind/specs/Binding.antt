@@ -5,6 +5,7 @@ use Rattle.sp_value.specs.declared.cell.Cell.{Cell}
 use Rattle.sp_value.specs.declared.cell.Cell.TheVariants as c
 use Rattle.sp_value.specs.declared.kind.Kind.TheVariants as kind
 use Rattle.sp_model.specs.declared.declaration.ColumnDecl.{ColumnDecl}
+use Rattle.sp_model.specs.declared.settings.Settings.{Settings}
 use Rattle.sql_grammar.specs.declared.ast.Asked.{Asked}
 use Rattle.sql_grammar.specs.declared.ast.Asked.TheVariants as asked
 use Rattle.sql_grammar.specs.declared.ast.Constant.{Constant}
@@ -21,7 +22,8 @@ use Rattle.sql_grammar.specs.declared.ast.Shown.{Shown}
 use Rattle.sql_grammar.specs.declared.ast.Shown.TheVariants as shown
 use Rattle.sql_grammar.specs.declared.ast.Statement.{Statement}
 use Rattle.sql_bind.specs.Fits.{fits_of}
-use Rattle.sql_bind.specs.Sources.{Seen}
+use Rattle.sql_bind.specs.Members.{members_named}
+use Rattle.sql_bind.specs.Sources.{Seen, alias_of}
 use Rattle.sql_bind.specs.declared.bound.Bound.{Bound}
 use Rattle.sql_bind.specs.declared.bound.BoundAsked.{BoundAsked}
 use Rattle.sql_bind.specs.declared.bound.BoundAsked.TheVariants as bound_asked
@@ -82,19 +84,19 @@ expr_of looked = fold-Expr BoundExpr (expr_layer looked)
 
 -- ---- the statement
 
--- a plain connection is the one member of itself
-abbrev pub source_of : List Seen → Seen → BoundSource
-source_of looked seen = record {
+abbrev pub source_of : Settings → List Seen → Seen → BoundSource
+source_of settings looked seen = record {
   connection = seen.source.connection.text;
-  members = seen.source.connection.text ∷ [];
+  members = members_named settings seen.source.connection.text;
+  alias = alias_of seen.source;
   table = seen.table;
   on = option_map (expr_of looked) seen.on;
 }
 
 -- the sources from the n-th on; the condition of a join looks at no later source
-abbrev pub sources_from : List Seen → ℕ → List Seen → List BoundSource
-sources_from all n [] = []
-sources_from all n (s ∷ ss) = source_of (take (n + 1) all) s ∷ sources_from all (n + 1) ss
+abbrev pub sources_from : Settings → List Seen → ℕ → List Seen → List BoundSource
+sources_from settings all n [] = []
+sources_from settings all n (s ∷ ss) = source_of settings (take (n + 1) all) s ∷ sources_from settings all (n + 1) ss
 
 -- a column under its own name
 abbrev pub columns_from : ℕ → ℕ → List ColumnDecl → List BoundItem
@@ -120,9 +122,9 @@ shown_of all (shown.Items items) = map (item_of all) items
 abbrev pub key_of : List Seen → Key → BoundKey
 key_of all k = record { column = column_of all k.of; down = k.descending }
 
-abbrev pub bound_by : List Seen → Statement → Bound
-bound_by all s = record {
-  sources = sources_from all 0 all;
+abbrev pub bound_by : Settings → List Seen → Statement → Bound
+bound_by settings all s = record {
+  sources = sources_from settings all 0 all;
   shown = shown_of all s.shown;
   test = option_map (expr_of all) s.test;
   order = map (key_of all) s.order;

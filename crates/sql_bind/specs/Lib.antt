@@ -1,5 +1,6 @@
 pub mod First
 pub mod Known
+pub mod Members
 pub mod Sources
 pub mod Parts
 pub mod Fits

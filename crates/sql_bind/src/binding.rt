@@ -1,6 +1,6 @@
 // Statements bound.
 
-ghost use Rattle.std.specs.Prelude.{◌≡◌, [], ◌∷◌, ◌++◌, map, IfOk, OnOk};
+ghost use Rattle.std.specs.Prelude.{◌≡◌, ◌++◌, map, IfOk, OnOk};
 ghost use Rattle.std.specs.Option.{option_map_or};
 ghost use Rattle.sql_bind.specs.Answer.{IsUnlessMemory, refused_part, bound};
 ghost use Rattle.sql_grammar.specs.declared.ast.Name.{Name as NameValue};
@@ -13,47 +13,42 @@ use crate::catalog::Catalog;
 use crate::conditions::{column_at, column_of, condition_of, fit_of};
 use crate::fault::BindFault;
 use crate::judging::Rule;
-use crate::sources::{Seen, ninth_source, seen_of, unknown_connection, unknown_table};
+use crate::sources::{Seen, alias_of, ninth_source, seen_of, unknown_connection, unknown_table};
 use crate::walking::{first_place, first_sources};
 use sp_model::{ColumnDecl, TableDecl};
-use sp_value::{Memory, Text, Texts, TryCopy};
+use sp_value::{Memory, Text, TryCopy};
 use sql_grammar::{Item, Key, Name, Shown, Statement};
 use sqlite_items::Items;
 use std::alloc::Global;
 
-/// A list of this one name.
-fn one_name(alloc: Global, name: &Text) -> Result<Texts, Memory>
-    ensures { IfOk result (λ names. names ≡ name.now ∷ []) }
-{
-    let mut names = Items::new(alloc);
-    let name = name.copy(alloc)?;
-    let Ok(()) = names.push(name) else {
-        return Err(Memory);
-    };
-    Ok(names)
-}
-
-fn source_of(alloc: Global, looked: &[Seen], seen: &Seen) -> Result<BoundSource, Memory>
-    ensures { IfOk result (λ s. s ≡ source_of looked.now seen.now) }
+fn source_of(
+    alloc: Global,
+    catalog: &Catalog,
+    looked: &[Seen],
+    seen: &Seen,
+) -> Result<BoundSource, Memory>
+    ensures { IfOk result (λ s. s ≡ source_of catalog.now.settings looked.now seen.now) }
 {
     let connection = seen.source().connection.text.copy(alloc)?;
-    let members = one_name(alloc, &connection)?;
+    let members = catalog.members(alloc, &connection)?;
+    let alias = alias_of(seen.source()).copy(alloc)?;
     let table = seen.table().copy(alloc)?;
     let on = condition_of(alloc, looked, seen.on())?;
     Ok(BoundSource {
         connection,
         members,
+        alias,
         table,
         on,
     })
 }
 
-fn sources_of(alloc: Global, all: &[Seen]) -> Result<Items<BoundSource>, Memory>
-    ensures { IfOk result (λ ss. ss ≡ sources_from all.now 0 all.now) }
+fn sources_of(alloc: Global, catalog: &Catalog, all: &[Seen]) -> Result<Items<BoundSource>, Memory>
+    ensures { IfOk result (λ ss. ss ≡ sources_from catalog.now.settings all.now 0 all.now) }
 {
     let mut sources = Items::new(alloc);
     for (n, seen) in all.iter().enumerate() {
-        let source = source_of(alloc, first_sources(all, n + 1), seen)?;
+        let source = source_of(alloc, catalog, first_sources(all, n + 1), seen)?;
         let Ok(()) = sources.push(source) else {
             return Err(Memory);
         };
@@ -168,10 +163,15 @@ fn keys_of(alloc: Global, all: &[Seen], keys: &[Key]) -> Result<Items<BoundKey>,
     Ok(found)
 }
 
-fn bound_by(alloc: Global, all: &[Seen], statement: &Statement) -> Result<Bound, Memory>
-    ensures { IfOk result (λ b. b ≡ bound_by all.now statement.now) }
+fn bound_by(
+    alloc: Global,
+    catalog: &Catalog,
+    all: &[Seen],
+    statement: &Statement,
+) -> Result<Bound, Memory>
+    ensures { IfOk result (λ b. b ≡ bound_by catalog.now.settings all.now statement.now) }
 {
-    let sources = sources_of(alloc, all)?;
+    let sources = sources_of(alloc, catalog, all)?;
     let shown = shown_of(alloc, all, &statement.shown)?;
     let test = condition_of(alloc, all, statement.test.as_ref())?;
     let order = keys_of(alloc, all, statement.order.as_slice())?;
@@ -201,7 +201,7 @@ fn refused_part(all: &[Seen], statement: &Statement) -> Option<BindFault>
 }
 
 /// The statement with columns in place of names, or the first refusal: of the kinds in the order of `BindFault`, and of
-/// one kind at the first place in the text. A connection whose declaration isn't set has no tables.
+/// one kind at the first place in the text. An aggregator has the tables of its first member; a connection whose declaration isn't set has none.
 pub fn bind(alloc: Global, statement: &Statement, catalog: &Catalog) -> Result<Bound, BindFault>
     ensures { IsUnlessMemory result (bound catalog.now.settings (declaration_of catalog.now) statement.now) }
 {
@@ -218,6 +218,6 @@ pub fn bind(alloc: Global, statement: &Statement, catalog: &Catalog) -> Result<B
     if let Some(place) = ninth_source(statement) {
         return Err(BindFault::TooManyTables { place });
     }
-    let bound = bound_by(alloc, seen.as_slice(), statement)?;
+    let bound = bound_by(alloc, catalog, seen.as_slice(), statement)?;
     Ok(bound)
 }

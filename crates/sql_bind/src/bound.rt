@@ -37,12 +37,13 @@ pub enum BoundExpr {
     Test { of: BoundOperand, asked: BoundAsked },
 }
 
-/// A source: the connection as the statement names it, the plain connections that it stands for, its table, and the
-/// condition on which its rows are joined. The first source has none.
+/// A source: the connection as the statement names it, the plain connections that it stands for, in the order of the settings, the name by
+/// which refs name it, its table, and the condition on which its rows are joined. The first source has none.
 #[derive(Drop)]
 pub struct BoundSource {
     pub connection: Text,
     pub members: Texts,
+    pub alias: Text,
     pub table: TableDecl,
     pub on: Option<BoundExpr>,
 }

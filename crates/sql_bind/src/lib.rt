@@ -24,4 +24,4 @@ pub use bound::{
 pub use catalog::Catalog;
 pub use fault::BindFault;
 pub use laws::binds_by_its_connections;
-pub use needed::connections_of;
+pub use needed::{connections_named, connections_of};

@@ -2,7 +2,8 @@
 
 ghost use Rattle.std.specs.Prelude.{◌≡◌, IfOk, is_some};
 ghost use Rattle.std.specs.Option.{option_copied};
-ghost use Rattle.sql_bind.specs.Known.{is_connection, declaration_of};
+ghost use Rattle.sql_bind.specs.Known.{is_connection};
+ghost use Rattle.sql_bind.specs.Members.{known_under};
 ghost use Rattle.sql_bind.specs.Refusals.{unknown_connection, unknown_table, ninth_source, place_unless};
 ghost use Rattle.sql_bind.specs.Sources.{alias_of, first_table, table_of, seen_by, seen_of};
 
@@ -76,14 +77,14 @@ fn table_named<'a>(name: &Text, declaration: &'a Declaration) -> Option<&'a Tabl
 }
 
 fn table_of<'a>(catalog: &'a Catalog, source: &Source) -> Option<&'a TableDecl>
-    ensures { option_copied result ≡ table_of (declaration_of catalog.now) source.now }
+    ensures { option_copied result ≡ table_of (known_under catalog.now) source.now }
 {
-    let declaration = catalog.declaration(&source.connection.text)?;
+    let declaration = catalog.declared_under(&source.connection.text)?;
     table_named(&source.table.text, declaration)
 }
 
 fn seen_by<'a>(catalog: &'a Catalog, source: &'a Source, on: Option<&'a Expr>) -> Option<Seen<'a>>
-    ensures { result ≡ seen_by (declaration_of catalog.now) (record { source = source.now; on = option_copied on.entry }) }
+    ensures { result ≡ seen_by (known_under catalog.now) (record { source = source.now; on = option_copied on.entry }) }
 {
     let table = table_of(catalog, source)?;
     Some(Seen { source, on, table })
@@ -95,7 +96,7 @@ pub(crate) fn seen_of<'a>(
     catalog: &'a Catalog,
     statement: &'a Statement,
 ) -> Result<Vec<Seen<'a>>, Memory>
-    ensures { IfOk result (λ seen. seen.items ≡ seen_of (declaration_of catalog.now) statement.now) }
+    ensures { IfOk result (λ seen. seen.items ≡ seen_of (known_under catalog.now) statement.now) }
 {
     let mut found = Vec::new(alloc);
     if let Some(seen) = seen_by(catalog, &statement.from, None) {
@@ -145,14 +146,14 @@ pub(crate) fn unknown_connection(catalog: &Catalog, statement: &Statement) -> Op
 }
 
 fn table_place(catalog: &Catalog, source: &Source) -> Option<u64>
-    ensures { result ≡ place_unless (is_some (table_of (declaration_of catalog.now) source.now)) source.now.table.place }
+    ensures { result ≡ place_unless (is_some (table_of (known_under catalog.now) source.now)) source.now.table.place }
 {
     unless(table_of(catalog, source).is_some(), source.table.place)
 }
 
 /// The name of the first table that isn't declared.
 pub(crate) fn unknown_table(catalog: &Catalog, statement: &Statement) -> Option<u64>
-    ensures { result ≡ unknown_table (declaration_of catalog.now) statement.now }
+    ensures { result ≡ unknown_table (known_under catalog.now) statement.now }
 {
     if let Some(place) = table_place(catalog, &statement.from) {
         return Some(place);

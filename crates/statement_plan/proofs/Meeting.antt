@@ -149,6 +149,28 @@ chosen_by table lists cs keys chosen false e h k =
 pub chosen_is_met : (table : TableDecl) (lists : List (List ℕ)) (cs : List Condition) (keys : List KeyDecl) (chosen : Access) → choose table cs lists ≡ Ok chosen → keys_for table chosen ≡ Some keys → Met keys lists cs
 chosen_is_met table lists cs keys chosen h k = chosen_by table lists cs keys chosen (is_get_met table.get cs lists) refl h k
 
+-- ---- a chosen access has keys
+
+list_has_keys : (list : Option ListDecl) (get : Option GetDecl) (lists : List (List ℕ)) (cs : List Condition) (chosen : Access) → choose_list list get cs lists ≡ Ok chosen → keys_of_list list ≡ None → ⊥
+list_has_keys None get lists cs chosen h e = cc
+list_has_keys (Some d) get lists cs chosen h e = cc
+
+get_has_keys : (get : Option GetDecl) (lists : List (List ℕ)) (cs : List Condition) → is_get_met get cs lists ≡ true → keys_of_get get ≡ None → ⊥
+get_has_keys None lists cs h e = cc
+get_has_keys (Some d) lists cs h e = cc
+
+has_keys_by : (table : TableDecl) (lists : List (List ℕ)) (cs : List Condition) (chosen : Access) (b : Bool) → is_get_met table.get cs lists ≡ b
+    → (if b then Ok access.Get else choose_list table.list table.get cs lists) ≡ Ok chosen → keys_for table chosen ≡ None → ⊥
+unfolding keys_for
+has_keys_by table lists cs chosen true e h k =
+    let same : access.Get ≡ chosen = cc in
+    get_has_keys table.get lists cs e (ap (keys_for table) same ∙ k)
+has_keys_by table lists cs chosen false e h k =
+    list_has_keys table.list table.get lists cs chosen h (sym (keys_chosen table table.list lists cs chosen refl h) ∙ k)
+
+pub chosen_has_keys : (table : TableDecl) (lists : List (List ℕ)) (cs : List Condition) (chosen : Access) → choose table cs lists ≡ Ok chosen → keys_for table chosen ≡ None → ⊥
+chosen_has_keys table lists cs chosen h k = has_keys_by table lists cs chosen (is_get_met table.get cs lists) refl h k
+
 -- ---- the fan
 
 fan_in : (P : List ℕ → Type 0) (keys : List KeyDecl) (x : List ℕ) (xs : List (List ℕ)) (b : Bool) (column : List ℕ) → is_sent keys (equals x) ≡ b

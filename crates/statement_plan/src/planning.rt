@@ -60,7 +60,7 @@ fn planned(
     let table = &source.table;
     // It has: the access was chosen by them.
     let Some(keys) = keys_for(table, access) else {
-        return Err(Memory);
+        unreachable!();
     };
     let conjuncts = said.conjuncts;
     let fan = fan_for(table, access, listed);

@@ -2,7 +2,7 @@
 use Rattle.std.proofs.Common.{◌≡◌, drop, map}
 use Rattle.sql_bind.specs.Answer.{each_once, connections_named}
 use Rattle.sql_bind.specs.Sources.{opened_by}
-use Rattle.sql_bind.proofs.needed.names_of.Given as goal
+use Rattle.sql_bind.proofs.needed.connections_named.Given as goal
 
 abbrev pub invariant-loop-join : goal.invariant-loop-join
 invariant-loop-join l =

@@ -1,9 +1,16 @@
-use Rattle.std.proofs.Common.{◌≡◌, Some, map, option_copied, sym, ap, ◌∙◌}
+use Rattle.std.proofs.Common.{◌≡◌, Some, map, option_copied, option_map, sym, ap, ◌∙◌}
 use Rattle.sp_model.specs.Requests.{fan_for}
 use Rattle.statement_plan.specs.Columns.{columns_for, layout_of}
 use Rattle.statement_plan.specs.Conjuncts.{conjuncts_of}
-use Rattle.statement_plan.specs.Sources.{listed_for, sent_from, fan_by, tests_from, pushed_limit}
+use Rattle.statement_plan.specs.Sources.{asked_for, listed_for, sent_from, fan_by, tests_from, pushed_limit}
+use Rattle.statement_plan.proofs.Meeting.{chosen_has_keys}
 use Rattle.statement_plan.proofs.planning.planned.Goals as goal
+
+pub unreachable-requires : goal.unreachable-requires
+unreachable-requires c =
+    let b = c.args.said.now.bound.now in
+    let k = c.args.of.now.source in
+    chosen_has_keys c.args.source.now.table (listed_for b k) (asked_for b k) c.args.access c.requires.access (sym c.keys_for.ensures ∙ ap (option_map (λ keys. keys.now)) c.in_default.is)
 
 pub returns : goal.returns
 returns c =
