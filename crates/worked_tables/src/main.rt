@@ -6,7 +6,6 @@ mod answer_cases;
 mod bind_cases;
 mod declaration_cases;
 mod error_cases;
-mod explain_cases;
 mod given;
 mod input_cases;
 mod line_cases;
@@ -29,7 +28,6 @@ impl Outcomes for Crates {
             "answer_text" => answer_cases::outcome(alloc, call, given),
             "command_words" => word_cases::outcome(alloc, call, given),
             "decl_core" => declaration_cases::outcome(alloc, call, given),
-            "explain_text" => explain_cases::outcome(alloc, call, given),
             "input_lines" => input_cases::outcome(alloc, call, given),
             "row_algebra" => row_cases::outcome(alloc, call, given),
             "settings_text" => settings_cases::outcome(alloc, call, given),
