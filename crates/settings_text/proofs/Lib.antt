@@ -1,4 +1,3 @@
 pub mod Documents
 pub mod EntriesSoFar
-pub mod NameSets
 pub mod Pairs

@@ -2,9 +2,10 @@
 use Rattle.std.specs.Prelude.{ℕ, suc, ℤ, pos, Bool, true, false, ◌&&◌, ◌||◌, List, [], ◌∷◌, codes, is_some, is_none, unwrap_or, Option, Some, None, Result, Ok, Err, option_and_then, if◌then◌else◌}
 use Rattle.std.specs.Option.{ok_or}
 use Rattle.toml.specs.Data.{Data, Items, no_items, item, get, as_bool, as_integer, as_array}
+use Rattle.read_members.specs.Tables.{table_has_only}
 use Rattle.sp_model.specs.declared.settings.Connection as connection
 use Rattle.sp_model.specs.declared.settings.Pair.{Pair}
-use Rattle.settings_text.specs.Members.{has_only, optional, optional_or, name_of, connection_name_of, says, some_texts_of, names_of, list_of, pair_of}
+use Rattle.settings_text.specs.Members.{optional, optional_or, name_of, connection_name_of, says, some_texts_of, names_of, list_of, pair_of}
 use Rattle.settings_text.specs.declared.fault.Entry.{Entry}
 use Rattle.settings_text.specs.declared.fault.Entry.TheVariants.{Top, Options}
 use Rattle.settings_text.specs.declared.fault.SettingsFault.{SettingsFault}
@@ -29,7 +30,7 @@ options_keys = codes "cache" ∷ codes "cache_ttl" ∷ codes "cache_max" ∷ cod
 
 -- the table `options`, with defaults put in
 abbrev pub options_of : Data → Option WrittenOptions
-options_of d = if has_only options_keys d
+options_of d = if table_has_only options_keys d
     then options_from
     (optional_or default_options.cache as_bool (get (codes "cache") d))
     (optional_or default_options.cache_ttl as_integer (get (codes "cache_ttl") d))
@@ -50,7 +51,7 @@ plain_keys = codes "name" ∷ codes "plugin" ∷ codes "command" ∷ []
 
 -- a connection with the command of its child
 abbrev pub plain_of : Data → Option connection.Connection
-plain_of d = if has_only plain_keys d
+plain_of d = if table_has_only plain_keys d
     then plain_from
     (option_and_then connection_name_of (get (codes "name") d))
     (option_and_then name_of (get (codes "plugin") d))
@@ -67,7 +68,7 @@ aggregator_keys = codes "name" ∷ codes "plugin" ∷ codes "type" ∷ codes "co
 
 -- `type = "aggregator"`, with patterns in place of a command
 abbrev pub aggregator_of : Data → Option connection.Connection
-aggregator_of d = if has_only aggregator_keys d && says (codes "aggregator") (get (codes "type") d)
+aggregator_of d = if table_has_only aggregator_keys d && says (codes "aggregator") (get (codes "type") d)
     then aggregator_from
     (option_and_then connection_name_of (get (codes "name") d))
     (option_and_then name_of (get (codes "plugin") d))
@@ -114,7 +115,7 @@ limiter_keys =
     codes "name" ∷ codes "bucket_size" ∷ codes "fill" ∷ codes "per" ∷ codes "max_concurrency" ∷ codes "scope" ∷ codes "conds" ∷ []
 
 abbrev pub limiter_of : Data → Option WrittenLimiter
-limiter_of d = if has_only limiter_keys d
+limiter_of d = if table_has_only limiter_keys d
     then limiter_from
     (option_and_then name_of (get (codes "name") d))
     (rates_of d)
@@ -155,7 +156,7 @@ top_keys = codes "options" ∷ codes "connection" ∷ codes "limiter" ∷ []
 
 -- at least one connection
 abbrev pub is_top : Data → Bool
-is_top d = has_only top_keys d && has_some (entries_at (codes "connection") d) && is_array_or_absent (get (codes "limiter") d)
+is_top d = table_has_only top_keys d && has_some (entries_at (codes "connection") d) && is_array_or_absent (get (codes "limiter") d)
 
 abbrev pub options_in : Data → Result WrittenOptions SettingsFault
 options_in d = shaped Options (optional_or default_options options_of (get (codes "options") d))

@@ -1,27 +1,10 @@
 -- How the members of a TOML table are read.
-use Rattle.std.specs.Prelude.{ℕ, Bool, true, false, ◌&&◌, List, [], ◌∷◌, bytes_eq, Option, Some, None, option_and_then, option_map, if◌then◌else◌}
-use Rattle.std.specs.List.{list_any, list_all}
+use Rattle.std.specs.Prelude.{ℕ, Bool, false, List, [], ◌∷◌, bytes_eq, Option, Some, None, option_and_then, option_map, if◌then◌else◌}
+use Rattle.std.specs.List.{list_all}
 use Rattle.std.specs.Option.{option_map_or}
-use Rattle.toml.specs.Data.{Data, string, integer, float, boolean, datetime, array, table, Items, no_items, item, Members, no_members, member, as_str, as_array}
+use Rattle.toml.specs.Data.{Data, Items, no_items, item, as_str, as_array}
 use Rattle.sp_model.specs.Names.{is_name, is_connection_name}
 use Rattle.sp_model.specs.declared.settings.Pair.{Pair}
-
-abbrev pub is_among : List (List ℕ) → List ℕ → Bool
-is_among names name = list_any (bytes_eq name) names
-
-abbrev pub are_among : List (List ℕ) → Members → Bool
-are_among names no_members = true
-are_among names (member key d ms) = is_among names key && are_among names ms
-
--- a table with keys of these names and no other
-abbrev pub has_only : List (List ℕ) → Data → Bool
-has_only names (string s) = false
-has_only names (integer z) = false
-has_only names (float x) = false
-has_only names (boolean b) = false
-has_only names (datetime dt) = false
-has_only names (array ds) = false
-has_only names (table ms) = are_among names ms
 
 -- a key that may be absent: without it nothing is read, and with it what `form` reads
 abbrev pub optional : {T : Type 0} → (Data → Option T) → Option Data → Option (Option T)

@@ -4,14 +4,14 @@ use Rattle.std.specs.Option.{option_or, ok_or}
 use Rattle.std.specs.Str.{is_utf8}
 use Rattle.toml.specs.Data.{Data, table}
 use Rattle.toml.specs.Parse.{parse_document}
+use Rattle.sp_model.specs.Names.{has_name}
 use Rattle.sp_model.specs.declared.settings.Connection as connection
 use Rattle.sp_model.specs.declared.settings.Limiter as limiter
 use Rattle.sp_model.specs.declared.settings.Options as options
 use Rattle.sp_model.specs.declared.settings.Settings.{Settings}
-use Rattle.settings_text.specs.Members.{is_among}
 use Rattle.settings_text.specs.Entries.{with_entry, written_of}
 use Rattle.settings_text.specs.Aggregators.{is_empty_aggregator, members_differ, with_members}
-use Rattle.settings_text.specs.Limits.{options_within, is_long, limiter_within}
+use Rattle.settings_text.specs.Limits.{most_entries, options_within, is_long, limiter_within}
 use Rattle.settings_text.specs.declared.fault.Entry.{Entry}
 use Rattle.settings_text.specs.declared.fault.Entry.TheVariants.{Top, Options}
 use Rattle.settings_text.specs.declared.fault.SettingsFault.{SettingsFault}
@@ -29,7 +29,7 @@ first_where test number (x ∷ xs) = if test x then Some number else first_where
 -- the number of the first name that is among those before it
 abbrev pub first_repeat : List (List ℕ) → ℕ → List (List ℕ) → Option ℕ
 first_repeat before number [] = None
-first_repeat before number (name ∷ names) = if is_among before name then Some number else first_repeat (before ++ name ∷ []) (suc number) names
+first_repeat before number (name ∷ names) = if has_name before name then Some number else first_repeat (before ++ name ∷ []) (suc number) names
 
 abbrev pub first_connection : (connection.Connection → Bool) → Written → Option Entry
 first_connection test w = option_map Entry.Connection (first_where test 1 w.connections)
@@ -54,9 +54,9 @@ abbrev pub unless : {T : Type 0} → (Entry → SettingsFault) → Option Entry 
 unless fault (Some at) more = Err (fault at)
 unless fault None more = more
 
--- at most 64 connections and 64 limiters
+-- too many connections or limiters
 abbrev pub are_many : Written → Bool
-are_many w = nat_lt 64 (length w.connections) || nat_lt 64 (length w.limiters)
+are_many w = nat_lt most_entries (length w.connections) || nat_lt most_entries (length w.limiters)
 
 abbrev pub limiters_within : ℕ → List WrittenLimiter → Result (List limiter.Limiter) SettingsFault
 limiters_within number [] = Ok []
@@ -78,34 +78,35 @@ within_limits w = if are_many w
     else settings_from (ok_or (options_within w.options) (Limit Options)) (connections_within w) (limiters_within 1 w.limiters)
 
 -- the first kind of refusal that there is, at its first place
-abbrev pub accepted : Written → Result Settings SettingsFault
-accepted w =
+abbrev pub settings_of : Written → Result Settings SettingsFault
+settings_of w =
     unless Duplicate (duplicate w)
     (unless EmptyAggregator (first_connection (is_empty_aggregator w.connections) w)
     (unless MembersDiffer (first_connection (members_differ w.connections) w)
     (within_limits w)))
 
-abbrev pub judged : Written → Result Settings SettingsFault
-judged w = unless NotYet (not_yet w) (accepted w)
+-- the same, where no entry is of a kind that can't be served yet
+abbrev pub served_settings_of : Written → Result Settings SettingsFault
+served_settings_of w = unless NotYet (not_yet w) (settings_of w)
 
-abbrev pub checked : (Written → Result Settings SettingsFault) → Result Written SettingsFault → Result Settings SettingsFault
-checked judge (Err fault) = Err fault
-checked judge (Ok w) = judge w
+abbrev pub of_written : (Written → Result Settings SettingsFault) → Result Written SettingsFault → Result Settings SettingsFault
+of_written settings (Err fault) = Err fault
+of_written settings (Ok w) = settings w
 
 -- the TOML document that bytes are, if they are text and TOML
 abbrev pub document_of : List ℕ → Option Data
 document_of bytes = if is_utf8 bytes then option_map table (parse_document bytes) else None
 
-abbrev pub read : (Written → Result Settings SettingsFault) → Option Data → Result Settings SettingsFault
-read judge None = Err Toml
-read judge (Some d) = checked judge (written_of d)
+abbrev pub of_document : (Written → Result Settings SettingsFault) → Option Data → Result Settings SettingsFault
+of_document settings None = Err Toml
+of_document settings (Some d) = of_written settings (written_of d)
 
 abbrev pub read_settings : List ℕ → Result Settings SettingsFault
-read_settings bytes = read judged (document_of bytes)
+read_settings bytes = of_document served_settings_of (document_of bytes)
 
 -- the same without the refusal "not yet"
 abbrev pub read_all_settings : List ℕ → Result Settings SettingsFault
-read_all_settings bytes = read accepted (document_of bytes)
+read_all_settings bytes = of_document settings_of (document_of bytes)
 
 -- for private clauses: the fault of bytes that are no document, or want of memory
 abbrev pub IsDocumentFault : SettingsFault → List ℕ → Type 0

@@ -6,10 +6,10 @@ ghost use Rattle.settings_text.specs.Faults.{IsUnlessMemory};
 
 use crate::fault::{Entry, SettingsFault};
 use crate::from_toml::{
-    FromToml, connection_name_at, has_only, name_at, names_at, optional, optional_or, says,
-    some_texts_at,
+    FromToml, connection_name_at, name_at, names_at, optional, optional_or, says, some_texts_at,
 };
 use crate::written::{DEFAULT_OPTIONS, Written, WrittenLimiter, WrittenOptions, WrittenRates};
+use read_members::table_has_only;
 use sp_model::{Connection, Pair};
 use sp_value::{Memory, Text};
 use sqlite_items::Items;
@@ -22,7 +22,7 @@ impl FromToml for WrittenOptions {
     ghost read_as = { options_of };
 
     fn from_toml(alloc: Global, value: &Value) -> Result<Option<WrittenOptions>, Memory> {
-        if !has_only(
+        if !table_has_only(
             value,
             &["cache", "cache_ttl", "cache_max", "window", "restarts"],
         ) {
@@ -76,7 +76,7 @@ pub trait Listed: FromToml {
 fn plain_of(alloc: Global, value: &Value) -> Result<Option<Connection>, Memory>
     ensures { IfOk result (λ o. o ≡ plain_of (view value.now)) }
 {
-    if !has_only(value, &["name", "plugin", "command"]) {
+    if !table_has_only(value, &["name", "plugin", "command"]) {
         return Ok(None);
     }
     let Some(name) = connection_name_at(alloc, value, "name")? else {
@@ -102,7 +102,7 @@ fn plain_of(alloc: Global, value: &Value) -> Result<Option<Connection>, Memory>
 fn aggregator_of(alloc: Global, value: &Value) -> Result<Option<Connection>, Memory>
     ensures { IfOk result (λ o. o ≡ aggregator_of (view value.now)) }
 {
-    if !has_only(value, &["name", "plugin", "type", "connections"]) {
+    if !table_has_only(value, &["name", "plugin", "type", "connections"]) {
         return Ok(None);
     }
     if !says(value, "type", "aggregator") {
@@ -203,7 +203,7 @@ impl FromToml for WrittenLimiter {
     ghost read_as = { limiter_of };
 
     fn from_toml(alloc: Global, value: &Value) -> Result<Option<WrittenLimiter>, Memory> {
-        if !has_only(
+        if !table_has_only(
             value,
             &[
                 "name",
@@ -285,7 +285,7 @@ fn has_connection(document: &Value) -> bool
 fn is_top(document: &Value) -> bool
     ensures { result ≡ is_top (view document.now) }
 {
-    has_only(document, &["options", "connection", "limiter"])
+    table_has_only(document, &["options", "connection", "limiter"])
         && has_connection(document)
         && is_array_or_absent(document, "limiter")
 }

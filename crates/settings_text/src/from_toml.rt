@@ -1,16 +1,16 @@
-ghost use Rattle.std.specs.Prelude.{◌≡◌, [], IfOk, map, option_and_then};
+ghost use Rattle.std.specs.Prelude.{◌≡◌, [], IfOk, option_and_then};
 ghost use Rattle.std.specs.List.{list_all};
 ghost use Rattle.std.specs.Option.{option_map};
 ghost use Rattle.toml.specs.Data.{get, as_str};
-ghost use Rattle.toml.specs.View.{view, items_view, members_view};
+ghost use Rattle.toml.specs.View.{view, items_view};
 ghost use Rattle.sp_model.specs.Names.{is_name};
-ghost use Rattle.settings_text.specs.Members.{is_among, are_among, has_only, optional, optional_or, each, name_of, connection_name_of, says, some_texts_of, names_of, list_of, pair_from, pair_in};
+ghost use Rattle.settings_text.specs.Members.{optional, optional_or, each, name_of, connection_name_of, says, some_texts_of, names_of, list_of, pair_from, pair_in};
 
 use sp_model::{Pair, is_connection_name, is_name};
 use sp_value::{Memory, Text, Texts};
 use sqlite_items::Items;
 use std::alloc::Global;
-use toml::{Table, Value};
+use toml::Value;
 
 /// What a TOML value of some form is read as.
 pub trait FromToml: Drop {
@@ -154,39 +154,6 @@ fn connection_name_of(alloc: Global, value: &Value) -> Result<Option<Text>, Memo
             Ok(None)
         },
         None => Ok(None),
-    }
-}
-
-/// Whether a name is one of these.
-pub fn is_among(names: &[&str], name: &str) -> bool
-    ensures { result ≡ is_among (map (λ n. n.now) names.entry.now) name.now }
-{
-    for known in names {
-        if name == *known {
-            return true;
-        }
-    }
-    false
-}
-
-fn are_among(names: &[&str], members: &Table) -> bool
-    ensures { result ≡ are_among (map (λ n. n.now) names.entry.now) (members_view members.now.entries) }
-{
-    for (key, _member) in members.iter() {
-        if !is_among(names, key.as_str()) {
-            return false;
-        }
-    }
-    true
-}
-
-/// Whether a value is a table with keys of these names and no other.
-pub fn has_only(value: &Value, names: &[&str]) -> bool
-    ensures { result ≡ has_only (map (λ n. n.now) names.entry.now) (view value.now) }
-{
-    match value {
-        Value::Table(members) => are_among(names, members),
-        _ => false,
     }
 }
 

@@ -10,7 +10,6 @@ mod entries;
 mod fault;
 mod from_toml;
 mod limits;
-mod name_set;
 mod reading;
 mod refusals;
 mod written;

@@ -11,6 +11,30 @@ use sp_value::{Memory, TryCopy};
 use sqlite_items::Items;
 use std::alloc::Global;
 
+/// Of connections, limiters, texts of a command and patterns of an aggregator there are at most so many each.
+pub const MOST_ENTRIES: usize = 64;
+
+/// Of names in a limiter's scope, and of its conditions.
+const MOST_LISTED: usize = 16;
+
+/// Ticks.
+const LONGEST_TTL: u64 = 1_000_000_000_000;
+
+const LARGEST_CACHE: u32 = 1024;
+
+const WIDEST_WINDOW: u32 = 4096;
+
+const MOST_RESTARTS: u32 = 100;
+
+/// Tokens of a bucket, tokens that fill it, and open calls.
+const HIGHEST_RATE: u32 = 1_000_000;
+
+/// Ticks.
+const LONGEST_PER: u32 = 1_000_000_000;
+
+/// The ticks in which a bucket is filled where nothing is said.
+const DEFAULT_PER: i64 = 1000;
+
 /// The number, where it is in its range.
 fn within(least: u64, most: u64, number: i64) -> Option<u64>
     ensures value { result ≡ within least most number }
@@ -51,10 +75,10 @@ fn none_or_within(least: u32, most: u32, number: Option<i64>) -> Option<Option<u
 pub fn options_within(written: WrittenOptions) -> Option<Options>
     ensures { result ≡ options_within written }
 {
-    let cache_ttl = within(0, 1_000_000_000_000, written.cache_ttl)?;
-    let cache_max = small_within(1, 1024, written.cache_max)?;
-    let window = small_within(1, 4096, written.window)?;
-    let restarts = small_within(0, 100, written.restarts)?;
+    let cache_ttl = within(0, LONGEST_TTL, written.cache_ttl)?;
+    let cache_max = small_within(1, LARGEST_CACHE, written.cache_max)?;
+    let window = small_within(1, WIDEST_WINDOW, written.window)?;
+    let restarts = small_within(0, MOST_RESTARTS, written.restarts)?;
     Some(Options {
         cache: written.cache,
         cache_ttl,
@@ -67,7 +91,7 @@ pub fn options_within(written: WrittenOptions) -> Option<Options>
 fn is_short(limiter: &WrittenLimiter) -> bool
     ensures { result ≡ is_short limiter.now }
 {
-    limiter.scope.len() <= 16 && limiter.conds.len() <= 16
+    limiter.scope.len() <= MOST_LISTED && limiter.conds.len() <= MOST_LISTED
 }
 
 /// The limiter, where each number is in its range and its lists are short.
@@ -78,16 +102,16 @@ fn limiter_within(alloc: Global, limiter: &WrittenLimiter) -> Result<Option<Limi
         return Ok(None);
     }
     let rates = limiter.rates;
-    let Some(bucket_size) = none_or_within(1, 1_000_000, rates.bucket_size) else {
+    let Some(bucket_size) = none_or_within(1, HIGHEST_RATE, rates.bucket_size) else {
         return Ok(None);
     };
-    let Some(fill) = none_or_within(1, 1_000_000, rates.fill) else {
+    let Some(fill) = none_or_within(1, HIGHEST_RATE, rates.fill) else {
         return Ok(None);
     };
-    let Some(per) = small_within(1, 1_000_000_000, rates.per.unwrap_or(1000)) else {
+    let Some(per) = small_within(1, LONGEST_PER, rates.per.unwrap_or(DEFAULT_PER)) else {
         return Ok(None);
     };
-    let Some(max_concurrency) = none_or_within(1, 1_000_000, rates.max_concurrency) else {
+    let Some(max_concurrency) = none_or_within(1, HIGHEST_RATE, rates.max_concurrency) else {
         return Ok(None);
     };
     Ok(Some(Limiter {

@@ -1,12 +1,12 @@
 ghost use Rattle.std.specs.Prelude.{◌≡◌, Some, None, MatchResult, IfOk};
 ghost use Rattle.toml.specs.View.{view};
 ghost use Rattle.settings_text.specs.Faults.{IsUnlessMemory};
-ghost use Rattle.settings_text.specs.Reading.{are_many, connections_within, within_limits, accepted, judged, document_of, read_settings, read_all_settings, IsDocumentFault};
+ghost use Rattle.settings_text.specs.Reading.{are_many, connections_within, within_limits, settings_of, served_settings_of, document_of, read_settings, read_all_settings, IsDocumentFault};
 
 use crate::aggregators::with_members;
 use crate::entries::written_of;
 use crate::fault::{Entry, SettingsFault};
-use crate::limits::{limiters_within, options_within};
+use crate::limits::{MOST_ENTRIES, limiters_within, options_within};
 use crate::refusals::{Differs, IsEmpty, IsLong, duplicate, first_connection, not_yet};
 use crate::written::Written;
 use sp_model::{Connection, Settings};
@@ -23,7 +23,7 @@ pub fn read_settings(alloc: Global, bytes: &[u8]) -> Result<Settings, SettingsFa
 {
     let document = document_of(alloc, bytes)?;
     let written = written_of(alloc, &document)?;
-    let settings = judged(alloc, &written)?;
+    let settings = served_settings_of(alloc, &written)?;
     Ok(settings)
 }
 
@@ -34,7 +34,7 @@ pub fn read_all_settings(alloc: Global, bytes: &[u8]) -> Result<Settings, Settin
 {
     let document = document_of(alloc, bytes)?;
     let written = written_of(alloc, &document)?;
-    let settings = accepted(alloc, &written)?;
+    let settings = settings_of(alloc, &written)?;
     Ok(settings)
 }
 
@@ -55,19 +55,19 @@ fn document_of(alloc: Global, bytes: &[u8]) -> Result<Value, SettingsFault>
 }
 
 /// The settings, unless an entry can be read but not yet served.
-fn judged(alloc: Global, written: &Written) -> Result<Settings, SettingsFault>
-    ensures { IsUnlessMemory result (judged written.now) }
+fn served_settings_of(alloc: Global, written: &Written) -> Result<Settings, SettingsFault>
+    ensures { IsUnlessMemory result (served_settings_of written.now) }
 {
     if let Some(at) = not_yet(alloc, written)? {
         return Err(SettingsFault::NotYet { at });
     }
-    let settings = accepted(alloc, written)?;
+    let settings = settings_of(alloc, written)?;
     Ok(settings)
 }
 
 /// The settings, or the first kind of refusal that there is, at its first place.
-fn accepted(alloc: Global, written: &Written) -> Result<Settings, SettingsFault>
-    ensures { IsUnlessMemory result (accepted written.now) }
+fn settings_of(alloc: Global, written: &Written) -> Result<Settings, SettingsFault>
+    ensures { IsUnlessMemory result (settings_of written.now) }
 {
     if let Some(at) = duplicate(alloc, written)? {
         return Err(SettingsFault::Duplicate { at });
@@ -83,11 +83,11 @@ fn accepted(alloc: Global, written: &Written) -> Result<Settings, SettingsFault>
     Ok(settings)
 }
 
-/// More than 64 connections or 64 limiters.
+/// Whether there are too many connections or limiters.
 fn are_many(written: &Written) -> bool
     ensures { result ≡ are_many written.now }
 {
-    written.connections.len() > 64 || written.limiters.len() > 64
+    written.connections.len() > MOST_ENTRIES || written.limiters.len() > MOST_ENTRIES
 }
 
 fn connections_within(alloc: Global, written: &Written) -> Result<Items<Connection>, SettingsFault>

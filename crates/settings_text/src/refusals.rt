@@ -5,8 +5,9 @@ ghost use Rattle.settings_text.specs.declared.fault.Entry.TheVariants as place;
 use crate::aggregators;
 use crate::entries::Listed;
 use crate::fault::Entry;
-use crate::name_set::NameSet;
+use crate::limits::MOST_ENTRIES;
 use crate::written::{Written, WrittenLimiter};
+use name_set::NameSet;
 use sp_model::Connection;
 use sp_value::Memory;
 use std::alloc::Global;
@@ -77,7 +78,7 @@ impl Rule for IsLong {
     ghost refuses = { λ _. is_long };
 
     fn refuses(&self, _alloc: Global, connection: &Connection) -> Result<bool, Memory> {
-        Ok(connection.command.len() > 64 || connection.connections.len() > 64)
+        Ok(connection.command.len() > MOST_ENTRIES || connection.connections.len() > MOST_ENTRIES)
     }
 }
 

@@ -1,5 +1,5 @@
-ghost use Rattle.std.specs.Prelude.{◌≡◌, [], ◌∷◌, ◌++◌, not, if◌then◌else◌, IfOk};
-ghost use Rattle.settings_text.specs.Members.{is_among};
+ghost use Rattle.std.specs.Prelude.{◌≡◌, [], ◌∷◌, ◌++◌, not, if◌then◌else◌, position, bytes_eq, IfOk};
+ghost use Rattle.sp_model.specs.Names.{has_name};
 
 use indexmap::IndexSet;
 use sp_value::Memory;
@@ -32,12 +32,24 @@ impl<'a> NameSet<'a> {
 
     /// Puts a name at the end, unless it is there already, and answers whether it was new.
     pub fn insert(&mut self, name: &'a str) -> Result<bool, Memory>
-        ensures added { IfOk result (λ b. b ≡ not (is_among self.old name.now)) }
+        ensures added { IfOk result (λ b. b ≡ not (has_name self.old name.now)) }
         ensures names { IfOk result (λ b. self.new ≡ (if b then self.old ++ name.now ∷ [] else self.old)) }
     {
-        let Ok(added) = self.names.insert(name) else {
-            return Err(Memory);
-        };
+        let added = self.names.insert(name)?;
         Ok(added)
+    }
+
+    /// Whether a name is there.
+    pub fn contains(&self, name: &str) -> bool
+        ensures { result ≡ has_name self.now name.now }
+    {
+        self.names.contains(name)
+    }
+
+    /// The place of a name, counted from 0.
+    pub fn place(&self, name: &str) -> Option<usize>
+        ensures { result ≡ position (bytes_eq name.now) self.now }
+    {
+        self.names.get_index_of(name)
     }
 }
