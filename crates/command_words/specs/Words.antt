@@ -1,11 +1,9 @@
 -- The words of the command.
 use Rattle.std.specs.Prelude.{ℕ, Bool, true, ◌&&◌, List, [], ◌∷◌, Option, Some, None, if◌then◌else◌, codes, not, nat_eq, nat_le, bytes_eq, option_map}
-use Rattle.std.specs.List.{starts_with}
-use Rattle.std.specs.Str.{all_ascii_digits}
-use Rattle.std.specs.Str.Parse.{digits_value}
 use Rattle.clap.specs.Faults.{fault_of}
 use Rattle.clap.specs.Simple.{App, new_app, new_rule, with_rule, matches_of}
 use Rattle.clap.specs.Walk.{Row, Rule, first_of, is_empty}
+use Rattle.spelled_counts.specs.Counts.{count_of}
 use Rattle.answer_text.specs.declared.answer.Form.{Form}
 use Rattle.answer_text.specs.declared.answer.Form.TheVariants as form
 use Rattle.command_words.specs.declared.words.Command.{Command}
@@ -35,20 +33,15 @@ form_of word =
     else (if bytes_eq word (codes "json") then Some form.Json
     else (if bytes_eq word (codes "table") then Some form.Table else None)))
 
-abbrev pub begins_with_zero : List ℕ → Bool
-begins_with_zero digits = starts_with nat_eq digits (codes "0")
-
--- the number from 1 to 100,000 that these digits spell, without leading zeros
-abbrev pub count_of : List ℕ → Option ℕ
-count_of digits =
-    let count = digits_value 10 digits in
-    if all_ascii_digits digits && not (begins_with_zero digits) && nat_le 1 count && nat_le count 100000 then Some count else None
+-- how many rows `load` may have
+abbrev pub most_rows : ℕ
+most_rows = 100000
 
 -- `query SETTINGS`, `load NUMBER`
 abbrev pub command_of_two : List ℕ → List ℕ → Option Command
 command_of_two word name =
     if bytes_eq word (codes "query") then Some (Query name)
-    else (if bytes_eq word (codes "load") then option_map Load (count_of name) else None)
+    else (if bytes_eq word (codes "load") then option_map Load (count_of most_rows name) else None)
 
 -- `explain SETTINGS DECLARATION`
 abbrev pub command_of_three : List ℕ → List ℕ → List ℕ → Option Command

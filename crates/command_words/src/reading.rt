@@ -1,8 +1,9 @@
 ghost use Rattle.std.specs.Prelude.{◌≡◌, map, option_map, bytes_eq, codes, Some, IfOk};
 ghost use Rattle.clap.specs.Matches.{found_of};
 ghost use Rattle.clap.specs.Walk.{first_of, rows_of};
+ghost use Rattle.spelled_counts.specs.Counts.{count_of};
 ghost use Rattle.command_words.specs.Matched.{IsRead};
-ghost use Rattle.command_words.specs.Words.{form_of, count_of, command_of_two, command_of_three, command_of, words_with, words_of_rows, words_of};
+ghost use Rattle.command_words.specs.Words.{form_of, most_rows, command_of_two, command_of_three, command_of, words_with, words_of_rows, words_of};
 ghost use Rattle.command_words.specs.declared.words.Command.TheVariants.{Load};
 
 use crate::matching::matched;
@@ -10,7 +11,11 @@ use crate::words::{Command, Words, WordsFault};
 use answer_text::Form;
 use clap::ArgMatches;
 use sp_value::{Memory, Text};
+use spelled_counts::count_of;
 use std::alloc::Global;
+
+/// How many rows `load` may have.
+const MOST_ROWS: u32 = 100_000;
 
 fn is_word(text: &str, word: &str) -> bool
     ensures { result ≡ bytes_eq text.now word.now }
@@ -34,23 +39,10 @@ fn form_of(word: &str) -> Option<Form>
     }
 }
 
-/// A number from 1 to 100,000, in decimal without leading zeros.
-fn count_of(digits: &str) -> Option<u32>
-    ensures { result ≡ count_of digits.now }
-{
-    if digits.starts_with('0') || digits.starts_with('+') {
-        return None;
-    }
-    match digits.parse::<u32>() {
-        Ok(count @ 1..=100_000) => Some(count),
-        _ => None,
-    }
-}
-
 fn load(number: &str) -> Result<Command, WordsFault>
-    ensures { IsRead result (option_map Load (count_of number.now)) }
+    ensures { IsRead result (option_map Load (count_of most_rows number.now)) }
 {
-    match count_of(number) {
+    match count_of(MOST_ROWS, number) {
         Some(count) => Ok(Command::Load {
             count: u64::from(count),
         }),

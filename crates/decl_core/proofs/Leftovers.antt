@@ -10,11 +10,11 @@ use Rattle.sp_model.specs.Hydration.{names_of_functions}
 use Rattle.decl_words.specs.Leftover.{waits_for, still_waiting, after_rounds, leftover}
 use Rattle.sp_model.specs.Names.{has_name}
 use Rattle.decl_words.specs.Refusals.{repeats, depends_on_unknown}
-use Rattle.decl_core.specs.Taking.{stays, can_be_taken, with_taken, after_turns, takes_one, at_places}
+use Rattle.decl_core.specs.Taking.{is_left, can_be_taken, with_taken, after_turns, takes_one, at_places}
 use Rattle.decl_words.proofs.Lists.{In, In-filter, filter-In, filter-shorter, filter-filter, filter-all, some_fails, none_passes, In-all, slice_get-In}
 use Rattle.decl_words.proofs.Functions.{named, has_name-In, dependency-known}
 use Rattle.decl_words.proofs.Names.{has_name-push}
-use Rattle.decl_core.proofs.NameSets.{has_name-added}
+use Rattle.name_set.proofs.Insertions.{has_name-added}
 
 -- no name of those after stands before
 fresh : (before : List (List ℕ)) (functions : List FunctionDecl) → repeats before (names_of_functions functions) ≡ false → (g : FunctionDecl) → In g functions → has_name before g.name ≡ false
@@ -105,8 +105,8 @@ out_more functions taken new added distinct out f there ready was is =
 abbrev pub is_settled : List (List ℕ) → FunctionDecl → Bool
 is_settled taken f = not (can_be_taken taken f)
 
-waits-for-one : (taken : List (List ℕ)) (g : FunctionDecl) → is_settled taken g ≡ true → stays taken g ≡ true → list_all (has_name taken) g.depends ≡ false
-waits-for-one taken g settled s = by (stays taken g) (list_all (has_name taken) g.depends) settled s
+waits-for-one : (taken : List (List ℕ)) (g : FunctionDecl) → is_settled taken g ≡ true → is_left taken g ≡ true → list_all (has_name taken) g.depends ≡ false
+waits-for-one taken g settled s = by (is_left taken g) (list_all (has_name taken) g.depends) settled s
   where
     by : (a b : Bool) → not (a && b) ≡ true → a ≡ true → b ≡ false
     by true true h s = sym h
@@ -116,30 +116,30 @@ waits-for-one taken g settled s = by (stays taken g) (list_all (has_name taken) 
 -- where no function can be taken out any more, those that stay are those that remain
 module _ (functions : List FunctionDecl) (taken : List (List ℕ)) (out : AreOut functions taken) (all : list_all (is_settled taken) functions ≡ true)
     (known : list_any (depends_on_unknown (names_of_functions functions)) functions ≡ false) where
-  keeps : (fs : List FunctionDecl) → filter (stays taken) fs ≡ filter (stays taken) functions → filter (stays taken) (still_waiting fs) ≡ filter (stays taken) functions
+  keeps : (fs : List FunctionDecl) → filter (is_left taken) fs ≡ filter (is_left taken) functions → filter (is_left taken) (still_waiting fs) ≡ filter (is_left taken) functions
   keeps fs same =
-      filter-filter (stays taken) (waits_for fs) fs (λ g there s.
-      let of_all : In g functions = (In-filter (stays taken) functions g (subst (In g) same (filter-In (stays taken) fs g there s))).0 in
+      filter-filter (is_left taken) (waits_for fs) fs (λ g there s.
+      let of_all : In g functions = (In-filter (is_left taken) functions g (subst (In g) same (filter-In (is_left taken) fs g there s))).0 in
       some_fails (has_name taken) (has_name (names_of_functions fs)) g.depends (waits-for-one taken g (In-all (is_settled taken) functions g all of_all) s) (λ d at not_taken.
       let found = named functions d (dependency-known functions known g of_all d at) in
-      let s' : stays taken found.0 ≡ true = ap not (ap (has_name taken) found.1.1 ∙ not_taken) in
-      let here : In found.0 fs = (In-filter (stays taken) fs found.0 (subst (In found.0) (sym same) (filter-In (stays taken) functions found.0 found.1.0 s'))).0 in
+      let s' : is_left taken found.0 ≡ true = ap not (ap (has_name taken) found.1.1 ∙ not_taken) in
+      let here : In found.0 fs = (In-filter (is_left taken) fs found.0 (subst (In found.0) (sym same) (filter-In (is_left taken) functions found.0 found.1.0 s'))).0 in
       ap (has_name (names_of_functions fs)) (sym found.1.1) ∙ has_name-In fs found.0 here))
       ∙ same
 
-  rounds-keep : (n : ℕ) (fs : List FunctionDecl) → filter (stays taken) fs ≡ filter (stays taken) functions → filter (stays taken) (after_rounds n fs) ≡ filter (stays taken) functions
+  rounds-keep : (n : ℕ) (fs : List FunctionDecl) → filter (is_left taken) fs ≡ filter (is_left taken) functions → filter (is_left taken) (after_rounds n fs) ≡ filter (is_left taken) functions
   rounds-keep zero fs same = same
   rounds-keep (suc n) fs same = rounds-keep n (still_waiting fs) (keeps fs same)
 
-  all_stay : (g : FunctionDecl) → In g (leftover functions) → stays taken g ≡ true
+  all_stay : (g : FunctionDecl) → In g (leftover functions) → is_left taken g ≡ true
   all_stay g h = by (has_name taken g.name) refl
     where
       by : (b : Bool) → has_name taken g.name ≡ b → not b ≡ true
       by true e = absurd (true≢false (sym (has_name-In (leftover functions) g h) ∙ out.out g.name e))
       by false e = refl
 
-  pub leftover-is : leftover functions ≡ filter (stays taken) functions
-  leftover-is = sym (filter-all (stays taken) (leftover functions) all_stay) ∙ rounds-keep (length functions) functions refl
+  pub leftover-is : leftover functions ≡ filter (is_left taken) functions
+  leftover-is = sym (filter-all (is_left taken) (leftover functions) all_stay) ∙ rounds-keep (length functions) functions refl
 
 -- ---- turns
 
@@ -147,9 +147,9 @@ module _ (functions : List FunctionDecl) (taken : List (List ℕ)) (out : AreOut
 abbrev pub Within : List FunctionDecl → List FunctionDecl → Type 0
 Within fs functions = (g : FunctionDecl) → In g fs → In g functions
 
-stays-parts : (a b : Bool) → (a && b) ≡ true → (a ≡ true) × (b ≡ true)
-stays-parts true b h = (refl, h)
-stays-parts false b h = absurd (true≢false (sym h))
+is_left-parts : (a b : Bool) → (a && b) ≡ true → (a ≡ true) × (b ≡ true)
+is_left-parts true b h = (refl, h)
+is_left-parts false b h = absurd (true≢false (sym h))
 
 with-out : (functions : List FunctionDecl) (taken : List (List ℕ)) → repeats [] (names_of_functions functions) ≡ false → AreOut functions taken
     → (f : FunctionDecl) → In f functions → AreOut functions (with_taken taken f)
@@ -157,7 +157,7 @@ with-out functions taken distinct out f there = by (can_be_taken taken f) refl
   where
     by : (b : Bool) → can_be_taken taken f ≡ b → AreOut functions (cond b (taken ++ f.name ∷ []) taken)
     by true e =
-        let parts = stays-parts (stays taken f) (list_all (has_name taken) f.depends) e in
+        let parts = is_left-parts (is_left taken f) (list_all (has_name taken) f.depends) e in
         out_more functions taken (taken ++ f.name ∷ []) true distinct out f there parts.1 (sym parts.0) refl
     by false e = out
 
@@ -226,10 +226,10 @@ count-lt p q less (x ∷ xs) y (inr h) is isnt = by (count-lt p q less xs y h is
     by rest true false e f = absurd (true≢false (sym (less x e) ∙ f))
 
 abbrev pub staying : List FunctionDecl → List (List ℕ) → ℕ
-staying functions taken = count (stays taken) functions
+staying functions taken = count (is_left taken) functions
 
--- what stays after one more is taken stayed before
-stayed : (taken : List (List ℕ)) (name : List ℕ) (g : FunctionDecl) → stays (taken ++ name ∷ []) g ≡ true → stays taken g ≡ true
+-- what is_left after one more is taken stayed before
+stayed : (taken : List (List ℕ)) (name : List ℕ) (g : FunctionDecl) → is_left (taken ++ name ∷ []) g ≡ true → is_left taken g ≡ true
 stayed taken name g h = by (has_name taken g.name) (bytes_eq g.name name) (ap not (sym (has_name-push taken name g.name)) ∙ h)
   where
     by : (a b : Bool) → not (a || b) ≡ true → not a ≡ true
@@ -237,13 +237,13 @@ stayed taken name g h = by (has_name taken g.name) (bytes_eq g.name name) (ap no
     by false b h = refl
 
 -- the one that is taken doesn't stay
-gone : (taken : List (List ℕ)) (f : FunctionDecl) → stays (taken ++ f.name ∷ []) f ≡ false
+gone : (taken : List (List ℕ)) (f : FunctionDecl) → is_left (taken ++ f.name ∷ []) f ≡ false
 gone taken f = ap not (has_name-push taken f.name f.name ∙ ap (λ b. has_name taken f.name || b) ((bytes_eq-Decides f.name f.name).1 refl) ∙ or-true (has_name taken f.name))
 
 fewer-with : (functions : List FunctionDecl) (taken : List (List ℕ)) (f : FunctionDecl) → In f functions → (b : Bool) → can_be_taken taken f ≡ b
     → staying functions (cond b (taken ++ f.name ∷ []) taken) + cond b 1 0 ≤ staying functions taken
 fewer-with functions taken f there true e =
-    omega (arith, count-lt (stays taken) (stays (taken ++ f.name ∷ [])) (stayed taken f.name) functions f there (stays-parts (stays taken f) (list_all (has_name taken) f.depends) e).0 (gone taken f))
+    omega (arith, count-lt (is_left taken) (is_left (taken ++ f.name ∷ [])) (stayed taken f.name) functions f there (is_left-parts (is_left taken f) (list_all (has_name taken) f.depends) e).0 (gone taken f))
 fewer-with functions taken f there false e = omega arith
 
 -- one less where one is taken out

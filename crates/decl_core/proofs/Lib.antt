@@ -1,4 +1,3 @@
-pub mod NameSets
 pub mod TablesSoFar
 pub mod ReadOneByOne
 pub mod Leftovers

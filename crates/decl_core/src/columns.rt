@@ -5,9 +5,10 @@ ghost use Rattle.sp_model.specs.RowOf.{names_of_columns};
 ghost use Rattle.decl_words.specs.Columns.{columns_of, hydrated};
 ghost use Rattle.sp_model.specs.Names.{has_name};
 
-use crate::from_json::{FromJson, has_only, optional, optional_or, required};
-use crate::name_set::NameSet;
+use crate::from_json::{FromJson, optional, optional_or, required};
 use crate::rules::call_rules_in;
+use name_set::NameSet;
+use read_members::object_has_only;
 use serde_json::Value;
 use sp_model::{ColumnDecl, FunctionDecl};
 use sp_value::{Kind, Memory, Text, Texts, TryCopy};
@@ -21,7 +22,7 @@ impl FromJson for ColumnDecl {
     ghost read_as = { column_of };
 
     fn from_json(alloc: Global, value: &Value) -> Result<Option<ColumnDecl>, Memory> {
-        if !has_only(value, &["name", "kind", "function", "field"]) {
+        if !object_has_only(value, &["name", "kind", "function", "field"]) {
             return Ok(None);
         }
         let Some(name) = required::<Text>(alloc, value, "name")? else {
@@ -55,7 +56,7 @@ impl FromJson for FunctionDecl {
     ghost read_as = { function_of };
 
     fn from_json(alloc: Global, value: &Value) -> Result<Option<FunctionDecl>, Memory> {
-        if !has_only(value, &["name", "depends", "tags", "ignore", "retry"]) {
+        if !object_has_only(value, &["name", "depends", "tags", "ignore", "retry"]) {
             return Ok(None);
         }
         let Some(name) = required::<Text>(alloc, value, "name")? else {

@@ -1,12 +1,12 @@
-ghost use Rattle.std.specs.Prelude.{◌≡◌, IfOk, map, option_and_then};
+ghost use Rattle.std.specs.Prelude.{◌≡◌, IfOk, option_and_then};
 ghost use Rattle.std.specs.List.{list_all};
 ghost use Rattle.serde_json.specs.Find.{get};
-ghost use Rattle.serde_json.specs.View.{view, items_view, members_view};
-ghost use Rattle.sp_model.specs.Names.{has_name, is_plain_byte};
-ghost use Rattle.decl_words.specs.Members.{are_among, has_only, optional, optional_or, each, is_plain_text};
+ghost use Rattle.serde_json.specs.View.{view, items_view};
+ghost use Rattle.sp_model.specs.Names.{is_plain_byte};
+ghost use Rattle.decl_words.specs.Members.{optional, optional_or, each, is_plain_text};
 
 use crate::words::{backoff_of, kind_of, matching_of, need_of, operator_of};
-use serde_json::{Map, Value};
+use serde_json::Value;
 use sp_model::{Backoff, Matching, Need};
 use sp_value::{Kind, Memory, Op, Text};
 use sqlite_items::Items;
@@ -159,39 +159,6 @@ fn is_plain_text(name: &str) -> bool
     ensures { result ≡ is_plain_text name.now }
 {
     !name.is_empty() && are_plain_bytes(name.as_bytes())
-}
-
-/// Whether a name is one of these.
-pub fn has_name(names: &[&str], name: &str) -> bool
-    ensures { result ≡ has_name (map (λ n. n.now) names.entry.now) name.now }
-{
-    for known in names {
-        if name == *known {
-            return true;
-        }
-    }
-    false
-}
-
-fn are_among(names: &[&str], members: &Map<String, Value>) -> bool
-    ensures { result ≡ are_among (map (λ n. n.now) names.entry.now) (members_view members.now.entries) }
-{
-    for (key, _member) in members.iter() {
-        if !has_name(names, key.as_str()) {
-            return false;
-        }
-    }
-    true
-}
-
-/// Whether a value is an object with members of these names and no other.
-pub fn has_only(value: &Value, names: &[&str]) -> bool
-    ensures { result ≡ has_only (map (λ n. n.now) names.entry.now) (view value.now) }
-{
-    match value {
-        Value::Object(members) => are_among(names, members),
-        _ => false,
-    }
 }
 
 /// What a member is read as, or `None` where it is absent or has another form.

@@ -6,8 +6,9 @@ ghost use Rattle.decl_words.specs.Keys.{default_matching, key_of, keys_of, is_eq
 ghost use Rattle.decl_words.specs.Members.{each, optional, optional_or};
 
 use crate::columns::KeyColumns;
-use crate::from_json::{FromJson, has_only, optional, optional_or, required};
+use crate::from_json::{FromJson, optional, optional_or, required};
 use crate::rules::call_rules_in;
+use read_members::object_has_only;
 use serde_json::Value;
 use sp_model::{AccessDecl, GetDecl, KeyDecl, ListDecl, Matching, Need};
 use sp_value::{Memory, Op, Text};
@@ -35,7 +36,7 @@ fn equality(alloc: Global) -> Result<Items<Op>, Memory>
 fn key_of(alloc: Global, columns: &KeyColumns, value: &Value) -> Result<Option<KeyDecl>, Memory>
     ensures { IfOk result (λ k. k ≡ key_of columns.now (view value.now)) }
 {
-    if !has_only(value, &["column", "operators", "require", "match"]) {
+    if !object_has_only(value, &["column", "operators", "require", "match"]) {
         return Ok(None);
     }
     let Some(column) = required::<Text>(alloc, value, "column")? else {
@@ -206,7 +207,7 @@ impl FromJson for AccessDecl {
     ghost read_as = { access_of };
 
     fn from_json(alloc: Global, value: &Value) -> Result<Option<AccessDecl>, Memory> {
-        if !has_only(value, &["function", "tags", "ignore", "retry"]) {
+        if !object_has_only(value, &["function", "tags", "ignore", "retry"]) {
             return Ok(None);
         }
         let Some(function) = required::<Text>(alloc, value, "function")? else {
@@ -227,7 +228,7 @@ impl FromJson for AccessDecl {
 fn list_of(alloc: Global, columns: &KeyColumns, value: &Value) -> Result<Option<ListDecl>, Memory>
     ensures { IfOk result (λ l. l ≡ list_access_of columns.now (view value.now)) }
 {
-    if !has_only(
+    if !object_has_only(
         value,
         &["function", "keys", "parent", "tags", "ignore", "retry"],
     ) {
@@ -258,7 +259,7 @@ fn list_of(alloc: Global, columns: &KeyColumns, value: &Value) -> Result<Option<
 fn get_of(alloc: Global, columns: &KeyColumns, value: &Value) -> Result<Option<GetDecl>, Memory>
     ensures { IfOk result (λ g. g ≡ get_access_of columns.now (view value.now)) }
 {
-    if !has_only(value, &["function", "keys", "tags", "ignore", "retry"]) {
+    if !object_has_only(value, &["function", "keys", "tags", "ignore", "retry"]) {
         return Ok(None);
     }
     let Some(function) = required::<Text>(alloc, value, "function")? else {

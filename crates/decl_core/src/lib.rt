@@ -10,7 +10,6 @@ mod cycles;
 mod from_json;
 mod keys;
 mod limits;
-mod name_set;
 mod reading;
 mod repeats;
 mod rules;

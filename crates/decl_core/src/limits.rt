@@ -11,10 +11,37 @@ use sp_model::{
 use sp_value::{Memory, Text};
 use std::alloc::Global;
 
+/// Bytes of a name.
+const NAME_BYTES: usize = 63;
+
+/// Patterns of a rule.
+const PATTERNS: usize = 64;
+
+/// Tags of a call.
+const TAGS: usize = 16;
+
+/// Columns of a table.
+const COLUMNS: usize = 256;
+
+/// Functions of a table.
+const FUNCTIONS: usize = 64;
+
+/// Tables of a declaration.
+const TABLES: usize = 512;
+
+/// Attempts of a call.
+pub const ATTEMPTS: u64 = 20;
+
+/// Ticks of a retry rule's interval.
+pub const INTERVAL: u64 = 1_000_000;
+
+/// Ticks above which no delay of a retry rule is.
+pub const CAP: u64 = 1_000_000_000;
+
 fn is_short(name: &Text) -> bool
     ensures { result ≡ is_short name.now }
 {
-    name.as_bytes().len() <= 63
+    name.as_bytes().len() <= NAME_BYTES
 }
 
 fn optional_is_short(name: &Option<Text>) -> bool
@@ -40,7 +67,7 @@ fn are_short(names: &[Text]) -> bool
 fn few_patterns(patterns: &Patterns) -> bool
     ensures { result ≡ few_patterns patterns.now }
 {
-    patterns.len() <= 64
+    patterns.len() <= PATTERNS
 }
 
 fn retry_fits(retry: &Retry) -> bool
@@ -48,9 +75,9 @@ fn retry_fits(retry: &Retry) -> bool
 {
     few_patterns(&retry.patterns)
         && retry.attempts >= 1
-        && retry.attempts <= 20
-        && retry.interval <= 1_000_000
-        && retry.cap <= 1_000_000_000
+        && u64::from(retry.attempts) <= ATTEMPTS
+        && retry.interval <= INTERVAL
+        && retry.cap <= CAP
 }
 
 fn ignore_fits(ignore: &Option<Patterns>) -> bool
@@ -80,7 +107,7 @@ fn rule_fits(ignore: &Option<Patterns>, retry: &Option<Retry>) -> bool
 fn call_fits(tags: &[Pair], ignore: &Option<Patterns>, retry: &Option<Retry>) -> bool
     ensures { result ≡ call_fits tags.now ignore.now retry.now }
 {
-    tags.len() <= 16 && rule_fits(ignore, retry)
+    tags.len() <= TAGS && rule_fits(ignore, retry)
 }
 
 fn column_fits(column: &ColumnDecl) -> bool
@@ -184,9 +211,9 @@ fn table_fits(table: &TableDecl) -> bool
     ensures { result ≡ table_fits table.now }
 {
     is_short(&table.name)
-        && table.columns.len() <= 256
+        && table.columns.len() <= COLUMNS
         && columns_fit(table.columns.as_slice())
-        && table.functions.len() <= 64
+        && table.functions.len() <= FUNCTIONS
         && functions_fit(table.functions.as_slice())
         && optional_list_fits(&table.list)
         && optional_get_fits(&table.get)
@@ -197,7 +224,7 @@ fn table_fits(table: &TableDecl) -> bool
 pub fn outside_fits(declaration: &Declaration) -> bool
     ensures { result ≡ outside_fits declaration.now }
 {
-    declaration.tables.len() <= 512 && rule_fits(&declaration.ignore, &declaration.retry)
+    declaration.tables.len() <= TABLES && rule_fits(&declaration.ignore, &declaration.retry)
 }
 
 /// A list, a name or a number of a table is beyond its limit.

@@ -1,7 +1,7 @@
 ghost use Rattle.std.specs.Prelude.{◌≡◌, [], map, IfOk};
 ghost use Rattle.decl_words.specs.Refusals.{repeats, list_repeats, get_repeats, has_repeat, duplicate_table};
 
-use crate::name_set::NameSet;
+use name_set::NameSet;
 use sp_model::{ColumnDecl, FunctionDecl, GetDecl, KeyDecl, ListDecl, TableDecl};
 use sp_value::{Memory, Text};
 use std::alloc::Global;

@@ -5,8 +5,10 @@ ghost use Rattle.sp_model.specs.Names.{has_name};
 ghost use Rattle.decl_words.specs.Members.{each, optional, optional_or};
 ghost use Rattle.decl_words.specs.Rules.{own_tags, tag_of, tags_in, tags_of, patterns_of, bounded, number_of, attempts_of, interval_of, cap_of, rule_in, call_rules_in};
 
-use crate::from_json::{FromJson, has_name, has_only, optional, required};
+use crate::from_json::{FromJson, optional, required};
+use crate::limits::{ATTEMPTS, CAP, INTERVAL};
 use decl_words::CallRules;
+use read_members::{has_name, object_has_only};
 use serde_json::{Map, Value};
 use sp_model::{Backoff, Pair, Patterns, Retry, Rule};
 use sp_value::{Memory, Text};
@@ -141,7 +143,7 @@ fn attempts_at(value: &Value) -> Option<u32>
     ensures { result ≡ option_and_then attempts_of (get (codes "attempts") (view value.now)) }
 {
     match value.get("attempts") {
-        Some(found) => match number_of(1, 20, found) {
+        Some(found) => match number_of(1, ATTEMPTS, found) {
             Some(attempts) => Some(attempts as u32),
             None => None,
         },
@@ -153,7 +155,7 @@ fn interval_at(value: &Value) -> Option<u64>
     ensures { result ≡ option_and_then interval_of (get (codes "interval") (view value.now)) }
 {
     match value.get("interval") {
-        Some(found) => number_of(0, 1_000_000, found),
+        Some(found) => number_of(0, INTERVAL, found),
         None => None,
     }
 }
@@ -162,8 +164,8 @@ fn cap_at(value: &Value) -> Option<u64>
     ensures { result ≡ optional_or 1000000000 cap_of (get (codes "cap") (view value.now)) }
 {
     match value.get("cap") {
-        Some(found) => number_of(0, 1_000_000_000, found),
-        None => Some(1_000_000_000),
+        Some(found) => number_of(0, CAP, found),
+        None => Some(CAP),
     }
 }
 
@@ -173,7 +175,7 @@ impl FromJson for Retry {
     ghost read_as = { retry_of };
 
     fn from_json(alloc: Global, value: &Value) -> Result<Option<Retry>, Memory> {
-        if !has_only(
+        if !object_has_only(
             value,
             &["patterns", "attempts", "backoff", "interval", "cap"],
         ) {

@@ -7,7 +7,7 @@ ghost use Rattle.sp_model.specs.SubsetKeys.{is_subset};
 ghost use Rattle.decl_words.specs.Refusals.{first_table, column_is_unknown, depends_on_unknown, is_subset_key};
 
 use crate::columns::KeyColumns;
-use crate::name_set::NameSet;
+use name_set::NameSet;
 use sp_model::{ColumnDecl, FunctionDecl, KeyDecl, Matching, TableDecl};
 use sp_value::Memory;
 use std::alloc::Global;

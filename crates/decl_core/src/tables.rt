@@ -5,10 +5,11 @@ ghost use Rattle.decl_words.specs.Faults.{is_memory};
 ghost use Rattle.decl_words.specs.Tables.{accesses_in, table_with, table_of, tables_from, draft_of};
 
 use crate::columns::{KeyColumns, columns_at};
-use crate::from_json::{has_only, optional_or, required};
+use crate::from_json::{optional_or, required};
 use crate::keys::{get_at, list_at};
 use crate::rules::rule_in;
 use decl_words::{Accesses, DeclFault};
+use read_members::object_has_only;
 use serde_json::Value;
 use sp_model::{ColumnDecl, Declaration, FunctionDecl, Rule, TableDecl};
 use sp_value::{Memory, Text};
@@ -76,7 +77,7 @@ fn table_with(
 fn table_of(alloc: Global, value: &Value) -> Result<Option<TableDecl>, Memory>
     ensures { IfOk result (λ t. t ≡ table_of (view value.now)) }
 {
-    if !has_only(
+    if !object_has_only(
         value,
         &[
             "name",
@@ -117,7 +118,7 @@ fn tables_from(alloc: Global, values: &Vec<Value>) -> Result<Items<TableDecl>, D
 pub fn draft_of(alloc: Global, value: &Value) -> Result<Declaration, DeclFault>
     ensures { IsUnlessMemory is_memory result (draft_of (view value.now)) }
 {
-    if !has_only(value, &["tables", "ignore", "retry"]) {
+    if !object_has_only(value, &["tables", "ignore", "retry"]) {
         return Err(DeclFault::Shape { table: 0 });
     }
     let Some(rule) = rule_in(alloc, value)? else {

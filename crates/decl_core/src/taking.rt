@@ -5,10 +5,10 @@ ghost use Rattle.sp_model.specs.Hydration.{names_of_functions};
 ghost use Rattle.decl_words.specs.Leftover.{leftover};
 ghost use Rattle.sp_model.specs.Names.{has_name};
 ghost use Rattle.decl_words.specs.Refusals.{repeats, depends_on_unknown};
-ghost use Rattle.decl_core.specs.Taking.{stays, can_be_taken, with_taken, after_turns, takes_one, at_places};
+ghost use Rattle.decl_core.specs.Taking.{is_left, can_be_taken, with_taken, after_turns, takes_one, at_places};
 
-use crate::name_set::NameSet;
 use crate::table_rule::function_names;
+use name_set::NameSet;
 use sp_model::FunctionDecl;
 use sp_value::{Memory, Texts, TryCopy};
 use sqlite_items::Items;
@@ -171,7 +171,7 @@ fn visiting_order(alloc: Global, functions: &[FunctionDecl]) -> Result<Vec<usize
 fn taken_out<'a>(alloc: Global, functions: &'a [FunctionDecl]) -> Result<NameSet<'a>, Memory>
     requires distinct { repeats [] (names_of_functions functions.now) ≡ false }
     requires known { list_any (depends_on_unknown (names_of_functions functions.now)) functions.now ≡ false }
-    ensures { IfOk result (λ taken. leftover functions.now ≡ filter (stays taken) functions.now) }
+    ensures { IfOk result (λ taken. leftover functions.now ≡ filter (is_left taken) functions.now) }
 {
     let order = visiting_order(alloc, functions)?;
     let mut taken = NameSet::new(alloc);
@@ -188,7 +188,7 @@ fn names_that_stay(
     mut functions: &[FunctionDecl],
     taken: &NameSet,
 ) -> Result<Texts, Memory>
-    ensures { IfOk result (λ names. names ≡ names_of_functions (filter (stays taken.now) functions.entry.now)) }
+    ensures { IfOk result (λ names. names ≡ names_of_functions (filter (is_left taken.now) functions.entry.now)) }
 {
     let mut names = Items::new(alloc);
     while let [first, rest @ ..] = functions {

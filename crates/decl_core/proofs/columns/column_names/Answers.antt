@@ -4,7 +4,7 @@ use Rattle.std.proofs.lemmas.List.{at_drop_more}
 use Rattle.sp_model.specs.declared.declaration.ColumnDecl.{ColumnDecl}
 use Rattle.sp_model.specs.RowOf.{names_of_columns}
 use Rattle.sp_model.specs.Names.{has_name}
-use Rattle.decl_core.proofs.NameSets.{has_name-insert}
+use Rattle.name_set.proofs.Insertions.{has_name-insert}
 use Rattle.decl_core.proofs.columns.column_names.Goals as goal
 
 pub loop-column-preserved : goal.loop-column-preserved

@@ -5,7 +5,7 @@ use Rattle.sp_model.specs.declared.declaration.ColumnDecl.{ColumnDecl}
 use Rattle.sp_model.specs.RowOf.{names_of_columns}
 use Rattle.decl_words.specs.Columns.{hydrated}
 use Rattle.sp_model.specs.Names.{has_name}
-use Rattle.decl_core.proofs.NameSets.{has_name-insert}
+use Rattle.name_set.proofs.Insertions.{has_name-insert}
 use Rattle.decl_core.proofs.columns.hydrated_names.Goals.{then-is_some+in_ok-insert, else-is_some}
 use Rattle.decl_core.proofs.columns.hydrated_names.Goals as goal
 

@@ -4,7 +4,7 @@ use Rattle.std.proofs.lemmas.List.{at_drop_more}
 use Rattle.sp_model.specs.declared.declaration.FunctionDecl.{FunctionDecl}
 use Rattle.sp_model.specs.Hydration.{names_of_functions}
 use Rattle.sp_model.specs.Names.{has_name}
-use Rattle.decl_core.proofs.NameSets.{has_name-insert}
+use Rattle.name_set.proofs.Insertions.{has_name-insert}
 use Rattle.decl_core.proofs.table_rule.function_names.Goals as goal
 
 pub loop-function-preserved : goal.loop-function-preserved

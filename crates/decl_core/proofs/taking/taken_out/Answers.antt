@@ -1,6 +1,6 @@
 -- What is taken out doesn't remain, and the rest remains once no turn takes one out.
 use Rattle.std.proofs.Common.{◌≡◌, ◌+◌, ◌≤◌, Bool, cond, filter, subst, sym, ap, ◌∙◌, arith}
-use Rattle.decl_core.specs.Taking.{stays, after_turns, at_places}
+use Rattle.decl_core.specs.Taking.{is_left, after_turns, at_places}
 use Rattle.decl_core.proofs.Leftovers.{AreOut, none_out, turns-out, at_places-Within, none-taken, fewer-turns, staying, leftover-is}
 use Rattle.decl_core.proofs.taking.taken_out.Goals as goal
 
@@ -33,4 +33,4 @@ returns-then-not-branch c =
     let before = c.loop-taken.taken in
     let none = none-taken functions before (sym c.in_ok-take_turns.ensures.one ∙ c.if-not-branch.true) in
     leftover-is functions before c.loop-taken.invariant none.1 c.requires.known
-    ∙ ap (λ taken. filter (stays taken) functions) (sym (c.in_ok-take_turns.ensures.names ∙ none.0))
+    ∙ ap (λ taken. filter (is_left taken) functions) (sym (c.in_ok-take_turns.ensures.names ∙ none.0))
