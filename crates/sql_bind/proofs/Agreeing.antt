@@ -114,9 +114,10 @@ first_agrees f g (n ∷ ns) all = all.0
 agree_under : (settings : Settings) (f g : List ℕ → Option Declaration) (names : List (List ℕ)) → Each (AgreeAt f g) (flat_map (members_named settings) names)
     → Each (AgreeAt (declared_under settings f) (declared_under settings g)) names
 agree_under settings f g [] all = tt
-agree_under settings f g (n ∷ ns) all =
-    (first_agrees f g (members_named settings n) (each_front (AgreeAt f g) (members_named settings n) (flat_map (members_named settings) ns) all),
-    agree_under settings f g ns (each_back (AgreeAt f g) (members_named settings n) (flat_map (members_named settings) ns) all))
+agree_under settings f g (n ∷ ns) all = (
+  first_agrees f g (members_named settings n) (each_front (AgreeAt f g) (members_named settings n) (flat_map (members_named settings) ns) all),
+  agree_under settings f g ns (each_back (AgreeAt f g) (members_named settings n) (flat_map (members_named settings) ns) all),
+)
 
 bound_alike : (settings : Settings) (f g : List ℕ → Option Declaration) (s : Statement) → Each (AgreeAt f g) (names_of (opened s)) → bound_with settings f s ≡ bound_with settings g s
 bound_alike settings f g s all =
