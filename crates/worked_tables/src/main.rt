@@ -2,10 +2,8 @@
 //! how many cases each table has, and each case at which another text came than has to come, or nothing.
 #![tactic(auto)]
 
-mod answer_cases;
 mod bind_cases;
 mod declaration_cases;
-mod error_cases;
 mod given;
 mod input_cases;
 mod line_cases;
@@ -13,7 +11,6 @@ mod row_cases;
 mod settings_cases;
 mod sql_cases;
 mod value_cases;
-mod word_cases;
 mod words;
 
 use case_tables::{Outcomes, run_file};
@@ -25,8 +22,6 @@ struct Crates;
 impl Outcomes for Crates {
     fn outcome(alloc: Global, of: &str, call: &str, given: &[Vec<u8>]) -> Option<String> {
         match of {
-            "answer_text" => answer_cases::outcome(alloc, call, given),
-            "command_words" => word_cases::outcome(alloc, call, given),
             "decl_core" => declaration_cases::outcome(alloc, call, given),
             "input_lines" => input_cases::outcome(alloc, call, given),
             "row_algebra" => row_cases::outcome(alloc, call, given),
