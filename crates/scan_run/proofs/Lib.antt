@@ -1,4 +1,0 @@
-pub mod Calling
-pub mod Scanning
-pub mod Serving
-pub mod States

@@ -1,4 +1,0 @@
-pub mod Choosing
-pub mod OnlySubset
-pub mod Readiness
-pub mod Steps
