@@ -34,13 +34,25 @@ pub enum ScanEnd<'a> {
 }
 
 /// One scan in progress. Where the world tells, its end is the book's. Contracts see what is known of it.
-#[derive(Drop)]
 pub struct Scan<W: World> {
     pub(crate) scope: ScanScope,
     pub(crate) course: Course<W>,
     pub(crate) version: Version,
     pub(crate) asked: u64,
     pub(crate) wanting: bool,
+}
+
+impl<W: World> Drop for Scan<W> {
+    // Written out, so that whoever lets a scan go proves a call and not each of its parts.
+    fn drop(self) {
+        let Scan {
+            scope: _,
+            course: _,
+            version: _,
+            asked: _,
+            wanting: _,
+        } = self;
+    }
 }
 
 /// Whether all calls came to their ending.

@@ -1,0 +1,34 @@
+use Rattle.std.proofs.Common.{◌≡◌, ◌∷◌, [], List, sym, subst}
+use Rattle.sp_model.specs.declared.scan.ScanNote.{ScanNote}
+use Rattle.plan_run.specs.Statements.{statement_of}
+use Rattle.statement_words.specs.Advances.{AreTrue}
+use Rattle.statement_words.specs.Answered.{IsAt}
+use Rattle.statement_words.specs.Course.{course, from_sources}
+use Rattle.statement_words.proofs.Courses.{course_begins}
+use Rattle.plan_run.proofs.plan.run_plan.Goals as goal
+
+pub run_sources-end-requires-clause-run : goal.run_sources-end-requires-clause-run
+run_sources-end-requires-clause-run g c = c.requires.run
+
+pub run_sources-end-requires-clause-ready : goal.run_sources-end-requires-clause-ready
+run_sources-end-requires-clause-ready g c = c.requires.ready
+
+pub returns-clause-told : goal.returns-clause-told
+returns-clause-told g c =
+    λ t o.
+    let plan = statement_of c.args.plan.now in
+    c.run_sources-end.ensures.told t o (course g.W.World.book plan)
+    (subst (λ (notes : List ScanNote). IsAt (course g.W.World.book plan) notes (λ vs. from_sources g.W.World.book plan plan.sources ([] ∷ []) vs)) (sym c.new-notes.ensures)
+    (course_begins g.W.World.book plan))
+
+pub returns-clause-notes : goal.returns-clause-notes
+returns-clause-notes g c =
+    λ t began le.
+    c.run_sources-end.ensures.advances.noted t began le
+    (subst (λ (notes : List ScanNote). AreTrue g.W.World.book c.args.settings.now.options began notes) (sym c.new-notes.ensures) (λ k n e. absurd (cc)))
+
+pub returns-clause-stop : goal.returns-clause-stop
+returns-clause-stop g c = c.run_sources-end.ensures.stop
+
+pub returns-clause-desk : goal.returns-clause-desk
+returns-clause-desk g c = c.run_sources-end.ensures.advances.later

@@ -1,0 +1,4 @@
+pub mod Calling
+pub mod Scanning
+pub mod Serving
+pub mod States

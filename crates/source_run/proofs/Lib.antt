@@ -1,0 +1,4 @@
+pub mod Choosing
+pub mod OnlySubset
+pub mod Readiness
+pub mod Steps
