@@ -44,7 +44,7 @@ impl Attempt {
     {
         let items = match call {
             Call::List { conditions, .. } | Call::Get { conditions, .. } => {
-                kept(alloc, self.reply.items.as_slice(), conditions.as_slice())?
+                items_meeting(alloc, self.reply.items.as_slice(), conditions.as_slice())?
             }
             _ => self.reply.items.copy(alloc)?,
         };
@@ -87,7 +87,7 @@ fn keep(
 
 /// The items that meet each condition, in their order.
 #[tactic(auto, using(crate::proofs::Items::item_at, crate::proofs::Items::items_none))]
-fn kept(alloc: Global, items: &[Cell], conditions: &[Condition]) -> Result<Cells, Memory>
+fn items_meeting(alloc: Global, items: &[Cell], conditions: &[Condition]) -> Result<Cells, Memory>
     requires { AreItems items.now }
     ensures items { IfOk result AreItems }
     ensures fewer { IfOk result (λ kept. length kept ≤ length items.now) }

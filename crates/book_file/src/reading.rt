@@ -1,11 +1,12 @@
-ghost use Rattle.std.specs.Prelude.{◌<◌, ◌^◌, length, IfOk, IfSome};
-ghost use Rattle.book_file.specs.Sayable.{AreItems};
+ghost use Rattle.std.specs.Prelude.{◌<◌, length, IfOk, IfSome};
+ghost use Rattle.book_file.specs.Sayable.{number_limit, item_limit, AreItems};
 
 use crate::attempt::{Attempt, add_item};
 use crate::book::{Book, Entry};
 use crate::declared::Declared;
 use crate::fault::BookFault;
 use crate::version_at::VersionAt;
+use read_members::object_has_only;
 use serde_json::Value;
 use sp_model::{Ending, Reply};
 use sp_value::{Cells, Memory};
@@ -13,37 +14,18 @@ use sp_world::{item_from, text_at};
 use sqlite_items::Items;
 use std::alloc::Global;
 
-/// How many items a reply has less than.
-const ITEMS: usize = 1_000_000;
+/// A reply has fewer items than this.
+const ITEM_LIMIT: usize = 1_000_000;
 
-fn is_among(names: &[&str], name: &str) -> bool {
-    for known in names {
-        if name == *known {
-            return true;
-        }
-    }
-    false
-}
+/// Ticks and versions are below this: 2^63.
+const NUMBER_LIMIT: u64 = 9_223_372_036_854_775_808;
 
-/// Whether a value is an object whose members all have these names.
-fn has_only(value: &Value, names: &[&str]) -> bool {
-    let Some(members) = value.as_object() else {
-        return false;
-    };
-    for (name, _member) in members.iter() {
-        if !is_among(names, name.as_str()) {
-            return false;
-        }
-    }
-    true
-}
-
-/// A natural number below 2^63.
+/// A tick or a version.
 fn natural(value: &Value) -> Option<u64>
-    ensures { IfSome result (λ n. n < 2 ^ 63) }
+    ensures { IfSome result (λ n. n < number_limit) }
 {
     match value.as_u64() {
-        Some(number) if number < 9_223_372_036_854_775_808 => Some(number),
+        Some(number) if number < NUMBER_LIMIT => Some(number),
         _ => None,
     }
 }
@@ -76,9 +58,9 @@ fn versions_from(alloc: Global, values: &[Value]) -> Result<Items<VersionAt>, Bo
 #[tactic(auto, using(crate::proofs::Items::items_none))]
 fn items_from(alloc: Global, values: &[Value]) -> Result<Option<Cells>, Memory>
     ensures items { IfOk result (λ o. IfSome o AreItems) }
-    ensures fewer { IfOk result (λ o. IfSome o (λ items. length items < 1000000)) }
+    ensures fewer { IfOk result (λ o. IfSome o (λ items. length items < item_limit)) }
 {
-    if values.len() >= ITEMS {
+    if values.len() >= ITEM_LIMIT {
         return Ok(None);
     }
     let mut items = Items::new(alloc);
@@ -103,7 +85,7 @@ fn ending_from(alloc: Global, value: &Value) -> Result<Option<Ending>, Memory> {
 }
 
 fn attempt_from(alloc: Global, value: &Value) -> Result<Option<Attempt>, Memory> {
-    if !has_only(value, &["items", "error"]) {
+    if !object_has_only(value, &["items", "error"]) {
         return Ok(None);
     }
     let Some(values) = value.get("items").and_then(Value::as_array) else {
@@ -141,7 +123,7 @@ fn attempts_from(
 
 /// The entry of this number.
 fn entry_from(alloc: Global, value: &Value, entry: usize) -> Result<Entry, BookFault> {
-    if !has_only(value, &["call", "attempts"]) {
+    if !object_has_only(value, &["call", "attempts"]) {
         return Err(BookFault::Entry { entry });
     }
     let Some(call) = value.get("call").and_then(Value::as_object) else {
@@ -184,7 +166,7 @@ fn declaration_from(value: &Value) -> Result<Declared, BookFault> {
 /// The book that a JSON value is: `{"declaration":D,"versions":[[tick,version] ..],"replies":[entry ..]}`, where an entry is
 /// `{"call":{..},"attempts":[{"items":[..],"error"?:"text"} ..]}`.
 pub fn book_from(alloc: Global, value: &Value) -> Result<Book, BookFault> {
-    if !has_only(value, &["declaration", "versions", "replies"]) {
+    if !object_has_only(value, &["declaration", "versions", "replies"]) {
         return Err(BookFault::Form);
     }
     let Some(versions) = value.get("versions").and_then(Value::as_array) else {

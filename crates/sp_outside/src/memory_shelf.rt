@@ -54,10 +54,10 @@ fn find<'a>(files: &'a [(Text, Items<u8>)], name: &str) -> Option<&'a Items<u8>>
 }
 
 impl Shelf for MemoryShelf {
-    ghost use Rattle.std.specs.Prelude.{Some};
+    ghost use Rattle.sp_outside.specs.Files.{told_whole};
     ghost use Rattle.sp_outside.specs.Memories.{file_of};
 
-    ghost file = { λ s name. Some (file_of s.files name) };
+    ghost file = { λ s name. told_whole (file_of s.files name) };
 
     ghost faulted = { λ s. s.faults };
 

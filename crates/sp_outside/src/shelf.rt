@@ -17,10 +17,10 @@ pub enum ShelfEnd {
 /// Files by name.
 pub trait Shelf {
     ghost use Rattle.std.specs.Prelude.{ℕ, List};
-    ghost use Rattle.std.specs.declared.option.Option.{Option};
+    ghost use Rattle.sp_outside.specs.Files.{FileTold};
 
     /// What is told of the file of a name: nothing, that there is none, or its bytes.
-    ghost file: { Self → List ℕ → Option (Option (List ℕ)) };
+    ghost file: { Self → List ℕ → FileTold };
 
     /// How many faults there were.
     ghost faulted: { Self → ℕ };
