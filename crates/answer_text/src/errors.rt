@@ -42,7 +42,8 @@ fn at_place(alloc: Global, words: &str, place: u64) -> Result<String, AllocError
     format!(in alloc; "{words} at {place}")
 }
 
-fn declaration_words(alloc: Global, fault: &DeclarationFault) -> Result<String, AllocError>
+/// Why a declaration is refused.
+pub fn declaration_words(alloc: Global, fault: &DeclarationFault) -> Result<String, AllocError>
     ensures { IfOk result (λ s. string_bytes s ≡ declaration_words fault.now) }
 {
     match fault {

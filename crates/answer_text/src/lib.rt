@@ -19,6 +19,6 @@ mod table_text;
 pub use answer::{Answer, DeclarationFault, ErrorLine, Form, ShownEnd};
 pub use block_text::block;
 pub use columns::push_escaped;
-pub use errors::{error_line, error_text};
+pub use errors::{declaration_words, error_line, error_text};
 pub use note_text::{access_word, notes};
 pub use spelled::push_all;

@@ -49,9 +49,9 @@ fn read_file<R: Files>(rt: &R, alloc: Global, name: &str) -> Result<Vec<u8>, She
 }
 
 impl<R: Files + Drop> Shelf for FolderShelf<R> {
-    ghost use Rattle.std.specs.Prelude.{None};
+    ghost use Rattle.sp_outside.specs.Files.{Untold};
 
-    ghost file = { λ _ _. None };
+    ghost file = { λ _ _. Untold };
 
     ghost faulted = { λ s. s.faults };
 

@@ -1,3 +1,5 @@
 mod Answered
-mod Asks
 mod Endings
+mod Explanations
+mod JsonTexts
+mod Tasks

@@ -1,2 +1,4 @@
+pub mod Explaining
+pub mod Reading
 pub mod Running
 pub mod Shown

@@ -3,6 +3,7 @@ use Rattle.std.specs.Prelude.{ℕ, ◌+◌, List, [], ◌∷◌, ◌++◌, map, 
 use Rattle.answer_text.specs.Blocks.{block_text}
 use Rattle.answer_text.specs.Notes.{block_notes}
 use Rattle.answer_text.specs.declared.answer.Answer.{Answer as ShownAnswer}
+use Rattle.answer_text.specs.declared.answer.DeclarationFault.{DeclarationFault}
 use Rattle.answer_text.specs.declared.answer.DeclarationFault.TheVariants as wrong
 use Rattle.answer_text.specs.declared.answer.ErrorLine.{ErrorLine}
 use Rattle.answer_text.specs.declared.answer.ErrorLine.TheVariants as line
@@ -39,15 +40,23 @@ shown_bind (bind.TypeMismatch place) = shown.Error (line.TypeMismatch place)
 shown_bind (bind.TooManyTables place) = shown.Error (line.TooManyTables place)
 shown_bind bind.Memory = shown.Memory
 
+-- why a declaration is refused, and in which table; nothing for want of memory
+abbrev pub declaration_fault : DeclFault → Option (DeclarationFault × ℕ)
+declaration_fault (decl.Shape table) = Some (wrong.Shape, table)
+declaration_fault (decl.DuplicateName table) = Some (wrong.DuplicateName, table)
+declaration_fault (decl.UnknownFunction table) = Some (wrong.UnknownFunction, table)
+declaration_fault (decl.Cycle table functions) = Some (wrong.Cycle functions, table)
+declaration_fault (decl.SubsetKeyIsHydrated table) = Some (wrong.SubsetKeyIsHydrated, table)
+declaration_fault (decl.NoAccess table) = Some (wrong.NoAccess, table)
+declaration_fault (decl.Limit table) = Some (wrong.Limit, table)
+declaration_fault decl.Memory = None
+
+abbrev pub shown_refusal : List ℕ → Option (DeclarationFault × ℕ) → ShownEnd
+shown_refusal connection None = shown.Memory
+shown_refusal connection (Some p) = shown.Error (line.BadDeclaration connection p.0 p.1)
+
 abbrev pub shown_declaration : List ℕ → DeclFault → ShownEnd
-shown_declaration connection (decl.Shape table) = shown.Error (line.BadDeclaration connection wrong.Shape table)
-shown_declaration connection (decl.DuplicateName table) = shown.Error (line.BadDeclaration connection wrong.DuplicateName table)
-shown_declaration connection (decl.UnknownFunction table) = shown.Error (line.BadDeclaration connection wrong.UnknownFunction table)
-shown_declaration connection (decl.Cycle table functions) = shown.Error (line.BadDeclaration connection (wrong.Cycle functions) table)
-shown_declaration connection (decl.SubsetKeyIsHydrated table) = shown.Error (line.BadDeclaration connection wrong.SubsetKeyIsHydrated table)
-shown_declaration connection (decl.NoAccess table) = shown.Error (line.BadDeclaration connection wrong.NoAccess table)
-shown_declaration connection (decl.Limit table) = shown.Error (line.BadDeclaration connection wrong.Limit table)
-shown_declaration connection decl.Memory = shown.Memory
+shown_declaration connection f = shown_refusal connection (declaration_fault f)
 
 abbrev pub shown_fault : BlockFault → ShownEnd
 shown_fault fault.LineForm = shown.Error line.LineForm

@@ -1,24 +1,31 @@
-// The settings and the lines of a run.
+// The files and the lines of a run.
 
-ghost use Rattle.std.specs.Prelude.{◌≡◌, List, ℕ, IfOk, IfErr};
+ghost use Rattle.std.specs.Prelude.{◌≡◌, ◌≤◌, List, ℕ, All, Ok, Some, IfOk, IfErr, codes};
+ghost use Rattle.serde_json.specs.View.{view};
+ghost use Rattle.decl_words.specs.Sound.{IsSound};
 ghost use Rattle.input_lines.specs.Lines.{blocks_of};
-ghost use Rattle.steampipe_top.specs.Running.{AreSettings, IsRefusal, IsTextRefusal, IsSettingsEnd, IsInput, IsInputEnd};
+ghost use Rattle.settings_text.specs.Reading.{read_settings, read_all_settings};
+ghost use Rattle.sp_outside.specs.Files.{IsFile};
+ghost use Rattle.sp_world.specs.LineJson.{json_of};
+ghost use Rattle.steampipe_top.specs.Reading.{AreSettings, AreBadSettings, IsDeclaration, IsBadDeclaration, ReadsAs, IsFileEnd, IsUnreadEnd, IsTextEnd, IsInput, IsInputEnd};
 
-use crate::settings_line::{settings_line, settings_words};
+use crate::refusing::{refused, refused_declaration, refused_settings};
+use decl_core::read_declaration;
 use input_lines::{Line, LinesFault, read_lines};
-use settings_text::{SettingsFault, read_settings};
-use sp_model::Settings;
+use serde_json::Value;
+use settings_text::{read_all_settings, read_settings};
+use sp_model::{Declaration, Settings};
 use sp_outside::{ReadEnd, Shelf, ShelfEnd, Source, read_to_limit};
-use sp_value::{Memory, Text};
+use sp_value::Text;
 use sqlite_items::Items;
 use std::alloc::Global;
 
 /// How many bytes an input may have.
 const INPUT_LIMIT: usize = 1_048_576;
 
-/// Why there are no settings: they are refused, with the line that says so; or the shelf failed; or memory was wanting.
+/// Why a file gives nothing: it is refused, with the line that says so; or the shelf failed; or memory was wanting.
 #[derive(Drop)]
-pub(crate) enum SettingsEnd {
+pub(crate) enum FileEnd {
     Refused(Vec<u8>),
     Fault,
     Memory,
@@ -32,43 +39,120 @@ pub(crate) enum InputEnd {
     Memory,
 }
 
-fn refused(alloc: Global, words: &str) -> SettingsEnd
-    ensures { IsRefusal words.now result }
+/// The text of a file. `what` it should be.
+#[tactic(auto, using(crate::proofs::Endings::unread))]
+fn text_of<F: Shelf>(
+    alloc: Global,
+    files: &mut F,
+    file: &Text,
+    what: &str,
+) -> Result<Vec<u8>, FileEnd>
+    ensures ok { IfOk result (λ text. IsFile (F.file files.old file.now) text.items) }
+    ensures end { IfErr result (IsUnreadEnd what.now (F.file files.old file.now) (F.faulted files.old) (F.faulted files.new)) }
+    ensures later { F.faulted files.old ≤ F.faulted files.new }
+    ensures files { F.file files.new ≡ F.file files.old }
 {
-    match settings_line(alloc, words) {
-        Ok(line) => SettingsEnd::Refused(line),
-        Err(Memory) => SettingsEnd::Memory,
+    match files.read(alloc, file) {
+        Ok(text) => Ok(text),
+        Err(ShelfEnd::Absent) => Err(refused(alloc, what, "no file")),
+        Err(ShelfEnd::TooLong) => Err(refused(alloc, what, "too long")),
+        Err(ShelfEnd::Failed) => Err(FileEnd::Fault),
+        Err(ShelfEnd::Memory) => Err(FileEnd::Memory),
     }
 }
 
-/// The end for settings whose text is refused.
-fn refused_text(alloc: Global, fault: SettingsFault) -> SettingsEnd
-    ensures { IsTextRefusal fault result }
-{
-    match (fault, settings_words(alloc, fault)) {
-        (SettingsFault::Memory, _) | (_, Err(_)) => SettingsEnd::Memory,
-        (_, Ok(words)) => refused(alloc, words.as_str()),
-    }
-}
-
-/// The settings that a file has.
+/// The settings that a file has, where they can be served.
+#[tactic(auto, using(crate::proofs::Endings::by_settings, crate::proofs::Endings::by_unread))]
 pub(crate) fn settings_of<F: Shelf>(
     alloc: Global,
     files: &mut F,
     file: &Text,
-) -> Result<Settings, SettingsEnd>
-    ensures ok { IfOk result (AreSettings (F.file files.old file.now)) }
-    ensures end { IfErr result (IsSettingsEnd (F.file files.old file.now) (F.faulted files.old) (F.faulted files.new)) }
+) -> Result<Settings, FileEnd>
+    ensures ok { IfOk result (AreSettings read_settings (F.file files.old file.now)) }
+    ensures end { IfErr result (IsFileEnd (AreBadSettings read_settings) (codes "settings") (F.file files.old file.now) (F.faulted files.old) (F.faulted files.new)) }
 {
-    match files.read(alloc, file) {
-        Ok(bytes) => match read_settings(alloc, &bytes) {
-            Ok(settings) => Ok(settings),
-            Err(fault) => Err(refused_text(alloc, fault)),
+    let text = match text_of(alloc, files, file, "settings") {
+        Ok(text) => text,
+        Err(end) => return Err(end),
+    };
+    match read_settings(alloc, &text) {
+        Ok(settings) => Ok(settings),
+        Err(fault) => Err(refused_settings(alloc, fault)),
+    }
+}
+
+/// The settings that a file has, also those that nothing serves yet.
+#[tactic(auto, using(crate::proofs::Endings::by_settings, crate::proofs::Endings::by_unread))]
+pub(crate) fn all_settings_of<F: Shelf>(
+    alloc: Global,
+    files: &mut F,
+    file: &Text,
+) -> Result<Settings, FileEnd>
+    ensures ok { IfOk result (AreSettings read_all_settings (F.file files.old file.now)) }
+    ensures end { IfErr result (IsFileEnd (AreBadSettings read_all_settings) (codes "settings") (F.file files.old file.now) (F.faulted files.old) (F.faulted files.new)) }
+    ensures later { F.faulted files.old ≤ F.faulted files.new }
+    ensures files { F.file files.new ≡ F.file files.old }
+{
+    let text = match text_of(alloc, files, file, "settings") {
+        Ok(text) => text,
+        Err(end) => return Err(end),
+    };
+    match read_all_settings(alloc, &text) {
+        Ok(settings) => Ok(settings),
+        Err(fault) => Err(refused_settings(alloc, fault)),
+    }
+}
+
+/// The JSON that bytes are.
+#[tactic(auto, using(crate::proofs::Endings::by_json))]
+fn json_from(alloc: Global, bytes: &[u8]) -> Result<Value, FileEnd>
+    ensures ok { IfOk result (λ value. json_of bytes.now ≡ Some (view value)) }
+    ensures end { IfErr result (IsTextEnd (IsBadDeclaration bytes.now) (codes "declaration")) }
+{
+    let Ok(text) = str::from_utf8(bytes) else {
+        return Err(refused(alloc, "declaration", "json"));
+    };
+    match Value::from_str(alloc, text) {
+        Ok(value) => Ok(value),
+        Err(error) => if error.is_memory() {
+            Err(FileEnd::Memory)
+        } else {
+            Err(refused(alloc, "declaration", "json"))
         },
-        Err(ShelfEnd::Absent) => Err(refused(alloc, "no file")),
-        Err(ShelfEnd::TooLong) => Err(refused(alloc, "too long")),
-        Err(ShelfEnd::Failed) => Err(SettingsEnd::Fault),
-        Err(ShelfEnd::Memory) => Err(SettingsEnd::Memory),
+    }
+}
+
+/// The declaration that bytes are.
+#[tactic(auto, using(crate::proofs::Endings::by_declaration))]
+fn declaration_from(alloc: Global, bytes: &[u8]) -> Result<Declaration, FileEnd>
+    ensures ok { IfOk result (λ d. ReadsAs bytes.now (Ok d)) }
+    ensures sound { IfOk result (λ d. All IsSound d.tables) }
+    ensures end { IfErr result (IsTextEnd (IsBadDeclaration bytes.now) (codes "declaration")) }
+{
+    let value = match json_from(alloc, bytes) {
+        Ok(value) => value,
+        Err(end) => return Err(end),
+    };
+    match read_declaration(alloc, &value) {
+        Ok(declaration) => Ok(declaration),
+        Err(fault) => Err(refused_declaration(alloc, fault)),
+    }
+}
+
+/// The declaration that a file has.
+#[tactic(auto, using(crate::proofs::Endings::by_text, crate::proofs::Endings::by_unread))]
+pub(crate) fn declaration_of<F: Shelf>(
+    alloc: Global,
+    files: &mut F,
+    file: &Text,
+) -> Result<Declaration, FileEnd>
+    ensures ok { IfOk result (IsDeclaration (F.file files.old file.now)) }
+    ensures sound { IfOk result (λ d. All IsSound d.tables) }
+    ensures end { IfErr result (IsFileEnd IsBadDeclaration (codes "declaration") (F.file files.old file.now) (F.faulted files.old) (F.faulted files.new)) }
+{
+    match text_of(alloc, files, file, "declaration") {
+        Ok(text) => declaration_from(alloc, &text),
+        Err(end) => Err(end),
     }
 }
 

@@ -1,9 +1,7 @@
 // Answers as they are shown: each field is moved over.
 
 ghost use Rattle.std.specs.Prelude.{◌≡◌};
-ghost use Rattle.answer_text.specs.declared.answer.ErrorLine.TheVariants as line;
-ghost use Rattle.answer_text.specs.declared.answer.ShownEnd.TheVariants as shown;
-ghost use Rattle.steampipe_top.specs.Shown.{shown_sql, shown_bind, shown_declaration, shown_fault, scan_failure, shown_failure, shown_end, shown_answer, shown_block};
+ghost use Rattle.steampipe_top.specs.Shown.{shown_sql, shown_bind, declaration_fault, shown_declaration, shown_fault, scan_failure, shown_failure, shown_end, shown_answer, shown_block};
 
 use answer_text::{DeclarationFault, ErrorLine, ShownEnd};
 use decl_words::DeclFault;
@@ -47,36 +45,36 @@ fn shown_bind(fault: BindFault) -> ShownEnd
     }
 }
 
-fn bad_table(connection: Text, fault: DeclarationFault, table: u64) -> ShownEnd
-    ensures { result ≡ shown.Error (line.BadDeclaration connection fault table) }
+/// Why a declaration is refused, and in which table; nothing for want of memory.
+pub(crate) fn declaration_fault(fault: DeclFault) -> Option<(DeclarationFault, u64)>
+    ensures { result ≡ declaration_fault fault }
 {
-    ShownEnd::Error(ErrorLine::BadDeclaration {
-        connection,
-        fault,
-        table,
-    })
+    match fault {
+        DeclFault::Shape { table } => Some((DeclarationFault::Shape, table)),
+        DeclFault::DuplicateName { table } => Some((DeclarationFault::DuplicateName, table)),
+        DeclFault::UnknownFunction { table } => Some((DeclarationFault::UnknownFunction, table)),
+        DeclFault::Cycle { table, functions } => {
+            Some((DeclarationFault::Cycle { functions }, table))
+        }
+        DeclFault::SubsetKeyIsHydrated { table } => {
+            Some((DeclarationFault::SubsetKeyIsHydrated, table))
+        }
+        DeclFault::NoAccess { table } => Some((DeclarationFault::NoAccess, table)),
+        DeclFault::Limit { table } => Some((DeclarationFault::Limit, table)),
+        DeclFault::Memory => None,
+    }
 }
 
 fn shown_declaration(connection: Text, fault: DeclFault) -> ShownEnd
     ensures { result ≡ shown_declaration connection fault }
 {
-    match fault {
-        DeclFault::Shape { table } => bad_table(connection, DeclarationFault::Shape, table),
-        DeclFault::DuplicateName { table } => {
-            bad_table(connection, DeclarationFault::DuplicateName, table)
-        }
-        DeclFault::UnknownFunction { table } => {
-            bad_table(connection, DeclarationFault::UnknownFunction, table)
-        }
-        DeclFault::Cycle { table, functions } => {
-            bad_table(connection, DeclarationFault::Cycle { functions }, table)
-        }
-        DeclFault::SubsetKeyIsHydrated { table } => {
-            bad_table(connection, DeclarationFault::SubsetKeyIsHydrated, table)
-        }
-        DeclFault::NoAccess { table } => bad_table(connection, DeclarationFault::NoAccess, table),
-        DeclFault::Limit { table } => bad_table(connection, DeclarationFault::Limit, table),
-        DeclFault::Memory => ShownEnd::Memory,
+    match declaration_fault(fault) {
+        Some((fault, table)) => ShownEnd::Error(ErrorLine::BadDeclaration {
+            connection,
+            fault,
+            table,
+        }),
+        None => ShownEnd::Memory,
     }
 }
 

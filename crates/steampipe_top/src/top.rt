@@ -1,14 +1,15 @@
-ghost use Rattle.std.specs.Prelude.{◌≡◌, ◌≢◌, ◌⊎◌, ◌∷◌, [], List, length, MatchOption};
+ghost use Rattle.std.specs.Prelude.{◌≡◌, ◌≢◌, ◌⊎◌, List, ℕ, length, MatchOption};
 ghost use Rattle.sp_outside.specs.Causes.{Rose};
-ghost use Rattle.sp_model.specs.declared.settings.Settings.{Settings};
-ghost use Rattle.answer_text.specs.declared.answer.Form.{Form};
 ghost use Rattle.command_words.specs.Words.{words_of};
 ghost use Rattle.run_lines.specs.Blocks.{CameBack};
-ghost use Rattle.steampipe_top.specs.Running.{AreNamed, AreNone, AreReturned, IsOverLimit, IsPastSettings, HasAnswered, HasRun, IsNotYet, IsNoted, IfAnswered, IfRefused};
+ghost use Rattle.steampipe_top.specs.Reading.{IsOverLimit};
+ghost use Rattle.steampipe_top.specs.Running.{AreNone, AreReturned, IsPastFiles, HasAnswered, HasRun, IsNotYet, IsNoted, IfAnswered, IfRefused};
+ghost use Rattle.steampipe_top.specs.Explaining.{HasExplainedBy, IsReady, IsRefusedBy, IsToExplain};
 
-use crate::asking::{Asked, what_is_asked};
-use crate::reading::{InputEnd, SettingsEnd, lines_of, settings_of};
+use crate::explaining::explain;
+use crate::reading::{FileEnd, InputEnd, lines_of, settings_of};
 use crate::status::Status;
+use crate::task::{Task, read_task};
 use crate::writing::{refuse, write_blocks, write_not_yet};
 use answer_text::Form;
 use run_lines::run_lines;
@@ -33,12 +34,12 @@ fn run<W: World, I: Source, O: Sink, N: Sink, M: Nursery<W>, K: Clock>(
     clock: &K,
 ) -> Status
     requires all_back { length (M.back nursery.old) ≡ M.made nursery.old }
-    ensures answered { IfAnswered result (HasAnswered M.Kid.faulted M.Kid.gives M.Kid.connection W.tells W.book settings.now form result (I.left input.old) (I.left input.new) (O.held answers.old) (O.held answers.new) (N.held notes.old) (N.held notes.new) (M.back nursery.old) (M.back nursery.new)) }
+    ensures answered { IfAnswered result (HasAnswered M.Kid.faulted M.Kid.gives M.Kid.connection W.tells W.book settings.now form result (record { left = I.left input.old; held = O.held answers.old; notes = N.held notes.old; back = M.back nursery.old }) (record { left = I.left input.new; held = O.held answers.new; notes = N.held notes.new; back = M.back nursery.new })) }
     ensures read_fault { result ≡ Status.ReadFault → Rose (I.faulted input.old) (I.faulted input.new) }
     ensures input_limit { result ≡ Status.InputLimit → IsOverLimit (I.left input.old) (I.left input.new) }
     ensures write_fault { result ≡ Status.WriteFault → Rose (O.faulted answers.old) (O.faulted answers.new) ⊎ Rose (N.faulted notes.old) (N.faulted notes.new) }
     ensures refused { IfRefused result (λ line. (O.held answers.new ≡ O.held answers.old) × IsNoted (N.faulted notes.old) (N.faulted notes.new) (N.held notes.old) (N.held notes.new) line) }
-    ensures later { IsPastSettings result }
+    ensures later { IsPastFiles result }
     ensures children { (children : List M.Kid) × CameBack M.Kid.connection settings.now.connections (M.back nursery.old) (M.back nursery.new) children }
     ensures back { length (M.back nursery.new) ≡ M.made nursery.new }
 {
@@ -57,8 +58,8 @@ fn run<W: World, I: Source, O: Sink, N: Sink, M: Nursery<W>, K: Clock>(
 /// The program: reads the words, the settings file and the whole input, answers its lines over a child of each connection, and writes
 /// the answers and then the notes.
 ///
-/// The words are those of `command_words`, all others are `Usage`; `explain` and `load` come later, and are answered so. The input has at
-/// most 1,048,576 bytes and 10,000 lines.
+/// The words are those of `command_words`, all others are `Usage`. `explain` reads a declaration file too, makes no child, and writes what
+/// statements would scan; `load` comes later, and is answered so. The input has at most 1,048,576 bytes and 10,000 lines.
 /// A run that is refused writes one line to the notes and nothing to the answers.
 pub fn steampipe<W: World, I: Source, F: Shelf, O: Sink, N: Sink, M: Nursery<W>, K: Clock + Sync>(
     alloc: Global,
@@ -71,28 +72,32 @@ pub fn steampipe<W: World, I: Source, F: Shelf, O: Sink, N: Sink, M: Nursery<W>,
     clock: &K,
 ) -> Status
     requires all_back { length (M.back nursery.old) ≡ M.made nursery.old }
-    ensures answered { IfAnswered result (HasRun M.Kid.faulted M.Kid.gives M.Kid.connection W.tells W.book words.now (F.file files.old) result (I.left input.old) (I.left input.new) (O.held answers.old) (O.held answers.new) (N.held notes.old) (N.held notes.new) (M.back nursery.old) (M.back nursery.new) ⊎ IsNotYet words.now result (O.held answers.old) (O.held answers.new) (N.held notes.old) (N.held notes.new)) }
+    ensures answered { IfAnswered result (HasRun M.Kid.faulted M.Kid.gives M.Kid.connection W.tells W.book words.now (F.file files.old) result (record { left = I.left input.old; held = O.held answers.old; notes = N.held notes.old; back = M.back nursery.old }) (record { left = I.left input.new; held = O.held answers.new; notes = N.held notes.new; back = M.back nursery.new }) ⊎ IsToExplain words.now (λ file second. HasExplainedBy (F.file files.old) file second result (I.left input.old) (I.left input.new) (O.held answers.old) (O.held answers.new) (N.held notes.old) (N.held notes.new)) ⊎ IsNotYet words.now result (O.held answers.old) (O.held answers.new) (N.held notes.old) (N.held notes.new)) }
     ensures usage { MatchOption (words_of words.now) ((result ≡ Status.Usage) ⊎ (result ≡ Status.Memory)) (λ _. result ≢ Status.Usage) }
-    ensures settings { result ≡ Status.Settings → AreNone words.now (F.file files.old) (F.faulted files.old) (F.faulted files.new) (λ line. (O.held answers.new ≡ O.held answers.old) × IsNoted (N.faulted notes.old) (N.faulted notes.new) (N.held notes.old) (N.held notes.new) line) }
+    ensures settings { result ≡ Status.Settings → AreNone words.now (F.file files.old) (F.faulted files.old) (F.faulted files.new) (λ line. (O.held answers.new ≡ O.held answers.old) × IsNoted (N.faulted notes.old) (N.faulted notes.new) (N.held notes.old) (N.held notes.new) line) ⊎ IsToExplain words.now (λ file second. (line : List ℕ) × IsRefusedBy (F.file files.old) file second (F.faulted files.old) (F.faulted files.new) line × ((O.held answers.new ≡ O.held answers.old) × IsNoted (N.faulted notes.old) (N.faulted notes.new) (N.held notes.old) (N.held notes.new) line)) }
     ensures file_fault { result ≡ Status.FileFault → Rose (F.faulted files.old) (F.faulted files.new) }
-    ensures read_fault { result ≡ Status.ReadFault → ((settings : Settings) × (form : Form) × AreNamed words.now (F.file files.old) settings form) × Rose (I.faulted input.old) (I.faulted input.new) }
-    ensures input_limit { result ≡ Status.InputLimit → ((settings : Settings) × (form : Form) × AreNamed words.now (F.file files.old) settings form) × IsOverLimit (I.left input.old) (I.left input.new) }
+    ensures read_fault { result ≡ Status.ReadFault → IsReady words.now (F.file files.old) × Rose (I.faulted input.old) (I.faulted input.new) }
+    ensures input_limit { result ≡ Status.InputLimit → IsReady words.now (F.file files.old) × IsOverLimit (I.left input.old) (I.left input.new) }
     ensures write_fault { result ≡ Status.WriteFault → Rose (O.faulted answers.old) (O.faulted answers.new) ⊎ Rose (N.faulted notes.old) (N.faulted notes.new) }
     ensures refused { IfRefused result (λ line. (O.held answers.new ≡ O.held answers.old) × IsNoted (N.faulted notes.old) (N.faulted notes.new) (N.held notes.old) (N.held notes.new) line) }
     ensures children { AreReturned M.Kid.connection words.now (F.file files.old) (M.back nursery.old) (M.back nursery.new) }
     ensures back { length (M.back nursery.new) ≡ M.made nursery.new }
 {
-    match what_is_asked(alloc, words) {
-        Asked::Query { settings, form } => match settings_of(alloc, files, &settings) {
+    match read_task(alloc, words) {
+        Task::Query { settings, form } => match settings_of(alloc, files, &settings) {
             Ok(settings) => run::<W, I, O, N, M, K>(
                 alloc, &settings, form, input, answers, notes, nursery, clock,
             ),
-            Err(SettingsEnd::Refused(line)) => refuse(notes, &line, Status::Settings),
-            Err(SettingsEnd::Fault) => refuse(notes, b"error: file fault\n", Status::FileFault),
-            Err(SettingsEnd::Memory) => Status::Memory,
+            Err(FileEnd::Refused(line)) => refuse(notes, &line, Status::Settings),
+            Err(FileEnd::Fault) => refuse(notes, b"error: file fault\n", Status::FileFault),
+            Err(FileEnd::Memory) => Status::Memory,
         },
-        Asked::Later => write_not_yet(answers),
-        Asked::Nothing => refuse(notes, USAGE, Status::Usage),
-        Asked::Memory => Status::Memory,
+        Task::Explain {
+            settings,
+            declaration,
+        } => explain(alloc, &settings, &declaration, input, files, answers, notes),
+        Task::Load => write_not_yet(answers),
+        Task::Nothing => refuse(notes, USAGE, Status::Usage),
+        Task::Memory => Status::Memory,
     }
 }

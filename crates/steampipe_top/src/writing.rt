@@ -2,7 +2,7 @@
 
 ghost use Rattle.std.specs.Prelude.{◌≡◌, ◌⊎◌, ◌++◌, map, IfOk, OnOk};
 ghost use Rattle.sp_outside.specs.Causes.{Rose};
-ghost use Rattle.steampipe_top.specs.Running.{is_memory, is_rows, any_memory, all_rows, blocks_status, IsNoted, IsWritten, IsLaterWritten, IsPastSettings, IfAnswered, IfRefused};
+ghost use Rattle.steampipe_top.specs.Running.{is_memory, is_rows, any_memory, all_rows, blocks_status, IsNoted, IsWritten, IsLaterWritten, IsPastFiles, IfAnswered, IfRefused};
 ghost use Rattle.steampipe_top.specs.Shown.{shown_block, texts_of, blocks_text, notes_from, notes_text};
 
 use crate::shown::{ShownBlock, shown_block};
@@ -137,7 +137,7 @@ fn push_all(text: &mut Vec<u8>, more: &[u8]) -> Result<(), Memory>
 pub(crate) fn write_not_yet<O: Sink>(answers: &mut O) -> Status
     ensures written { IsLaterWritten result (O.held answers.old) (O.held answers.new) }
     ensures ends { IfRefused result (λ _. ⊥) }
-    ensures later { IsPastSettings result }
+    ensures later { IsPastFiles result }
     ensures cause { result ≡ Status.WriteFault → Rose (O.faulted answers.old) (O.faulted answers.new) }
 {
     match write_all(answers, b"error: not yet\n") {
@@ -156,7 +156,7 @@ pub(crate) fn write_blocks<O: Sink, N: Sink>(
 ) -> Status
     ensures written { IfAnswered result (IsWritten form result blocks (O.held answers.old) (O.held answers.new) (N.held notes.old) (N.held notes.new)) }
     ensures ends { IfRefused result (λ _. ⊥) }
-    ensures later { IsPastSettings result }
+    ensures later { IsPastFiles result }
     ensures cause { result ≡ Status.WriteFault → Rose (O.faulted answers.old) (O.faulted answers.new) ⊎ Rose (N.faulted notes.old) (N.faulted notes.new) }
 {
     let status = blocks_status(blocks.as_slice());

@@ -1,22 +1,12 @@
--- Each refusal by its words.
-use Rattle.std.proofs.Common.{rules, inl, inr, refl, sym, subst}
-use Rattle.std.specs.Prelude.{codes}
+-- A refusal of the text, by its words.
+use Rattle.std.proofs.Common.{sym, subst}
+use Rattle.settings_text.specs.Reading.{read_settings}
 use Rattle.sp_outside.specs.Files.{IsFile}
-use Rattle.steampipe_top.proofs.Endings.{by_words, by_text}
+use Rattle.steampipe_top.proofs.Endings.{by_settings}
 use Rattle.steampipe_top.proofs.reading.settings_of.Goals as goal
 
-pub returns-in-Ok-clause-end : goal.returns-in-Ok-clause-end
-returns-in-Ok-clause-end g c =
-    by_text (g.F.Shelf.file c.args.files.now c.args.file.now) (g.F.Shelf.faulted c.args.files.now) (g.F.Shelf.faulted c.read.new.self)
-    c.deref.result.now (subst (IsFile (g.F.Shelf.file c.args.files.now c.args.file.now)) (sym c.deref.ensures.value) c.in-Ok.ensures.found)
-    c.read_settings.result c.in-Err.fault c.in-Err.is c.read_settings.ensures c.refused_text.result c.refused_text.ensures
-
-pub returns-in-Err-Absent-clause-end : goal.returns-in-Err-Absent-clause-end
-returns-in-Err-Absent-clause-end g c =
-    by_words (g.F.Shelf.file c.args.files.now c.args.file.now) (g.F.Shelf.faulted c.args.files.now) (g.F.Shelf.faulted c.read.new.self)
-    (codes "no file") (inl (refl, search rules)) c.refused.result c.refused.ensures
-
-pub returns-in-Err-TooLong-clause-end : goal.returns-in-Err-TooLong-clause-end
-returns-in-Err-TooLong-clause-end g c =
-    by_words (g.F.Shelf.file c.args.files.now c.args.file.now) (g.F.Shelf.faulted c.args.files.now) (g.F.Shelf.faulted c.read.new.self)
-    (codes "too long") (inr (inl (refl, search rules))) c.refused-in-Err-TooLong.result c.refused-in-Err-TooLong.ensures
+pub returns-clause-end : goal.returns-clause-end
+returns-clause-end g c =
+    by_settings read_settings c.deref.result.now c.refused_settings.result (g.F.Shelf.file c.args.files.now c.args.file.now) (g.F.Shelf.faulted c.args.files.now) (g.F.Shelf.faulted c.text_of.new.files)
+    (subst (IsFile (g.F.Shelf.file c.args.files.now c.args.file.now)) (sym c.deref.ensures.value) c.in-Ok.ensures.ok)
+    c.read_settings.result c.in-Err-read_settings.fault c.in-Err-read_settings.is c.read_settings.ensures c.refused_settings.ensures

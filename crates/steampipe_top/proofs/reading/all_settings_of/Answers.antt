@@ -1,0 +1,12 @@
+-- A refusal of the text, by its words.
+use Rattle.std.proofs.Common.{sym, subst}
+use Rattle.settings_text.specs.Reading.{read_all_settings}
+use Rattle.sp_outside.specs.Files.{IsFile}
+use Rattle.steampipe_top.proofs.Endings.{by_settings}
+use Rattle.steampipe_top.proofs.reading.all_settings_of.Goals as goal
+
+pub returns-clause-end : goal.returns-clause-end
+returns-clause-end g c =
+    by_settings read_all_settings c.deref.result.now c.refused_settings.result (g.F.Shelf.file c.args.files.now c.args.file.now) (g.F.Shelf.faulted c.args.files.now) (g.F.Shelf.faulted c.text_of.new.files)
+    (subst (IsFile (g.F.Shelf.file c.args.files.now c.args.file.now)) (sym c.deref.ensures.value) c.in-Ok.ensures.ok)
+    c.read_all_settings.result c.in-Err-read_all_settings.fault c.in-Err-read_all_settings.is c.read_all_settings.ensures c.refused_settings.ensures
