@@ -1,5 +1,8 @@
 //! What comes of the calls of `decl_core`.
 
+ghost use Rattle.std.specs.Prelude.{All, IfSome};
+ghost use Rattle.decl_words.specs.Sound.{IsSound};
+
 use crate::given::json_at;
 use crate::words::{joined, pairs};
 use case_tables::{listed, str_at, word};
@@ -45,7 +48,9 @@ fn read(alloc: Global, given: &[Vec<u8>]) -> Option<String> {
 }
 
 /// The declaration whose JSON stands at a place.
-pub fn declaration_at(alloc: Global, given: &[Vec<u8>], place: usize) -> Option<Declaration> {
+pub fn declaration_at(alloc: Global, given: &[Vec<u8>], place: usize) -> Option<Declaration>
+    ensures { IfSome result (λ d. All IsSound d.tables) }
+{
     read_declaration(alloc, &json_at(alloc, given, place)?).ok()
 }
 

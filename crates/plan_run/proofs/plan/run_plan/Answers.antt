@@ -1,4 +1,4 @@
-use Rattle.std.proofs.Common.{◌≡◌, ◌∷◌, [], List, sym, subst}
+use Rattle.std.proofs.Common.{◌∷◌, [], List, sym, subst}
 use Rattle.sp_model.specs.declared.scan.ScanNote.{ScanNote}
 use Rattle.plan_run.specs.Statements.{statement_of}
 use Rattle.statement_words.specs.Advances.{AreTrue}

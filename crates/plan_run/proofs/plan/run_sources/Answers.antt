@@ -1,4 +1,4 @@
-use Rattle.std.proofs.Common.{◌≡◌, ◌∷◌, [], List, map, sym, subst}
+use Rattle.std.proofs.Common.{◌∷◌, [], List, map, sym, subst}
 use Rattle.std.specs.Prelude.{All}
 use Rattle.source_run.specs.Ready.{IsReady}
 use Rattle.plan_run.specs.Statements.{statement_of}
