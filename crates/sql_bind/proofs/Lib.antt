@@ -4,3 +4,6 @@ pub mod TestLaws
 pub mod BoundLaws
 pub mod Agreeing
 pub mod Onces
+pub mod Noting
+pub mod Below
+pub mod Keeping

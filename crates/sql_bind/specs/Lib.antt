@@ -4,6 +4,8 @@ pub mod Members
 pub mod Sources
 pub mod Parts
 pub mod Fits
+pub mod Wanted
+pub mod Index
 pub mod Refusals
 pub mod Binding
 pub mod Answer

@@ -1,6 +1,6 @@
 // Statements bound.
 
-ghost use Rattle.std.specs.Prelude.{◌≡◌, ◌++◌, map, IfOk, OnOk};
+ghost use Rattle.std.specs.Prelude.{◌≡◌, ◌≤◌, ◌++◌, length, map, take, IfOk, OnOk};
 ghost use Rattle.std.specs.Option.{option_map_or};
 ghost use Rattle.sql_bind.specs.Answer.{IsUnlessMemory, refused_part, bound};
 ghost use Rattle.sql_grammar.specs.declared.ast.Name.{Name as NameValue};
@@ -12,9 +12,11 @@ use crate::bound::{Bound, BoundItem, BoundKey, BoundSource};
 use crate::catalog::Catalog;
 use crate::conditions::{column_at, column_of, condition_of, fit_of};
 use crate::fault::BindFault;
+use crate::index::index_of;
 use crate::judging::Rule;
+use crate::looked::Looked;
 use crate::sources::{Seen, alias_of, ninth_source, seen_of, unknown_connection, unknown_table};
-use crate::walking::{first_place, first_sources};
+use crate::walking::first_place;
 use sp_model::{ColumnDecl, TableDecl};
 use sp_value::{Memory, Text, TryCopy};
 use sql_grammar::{Item, Key, Name, Shown, Statement};
@@ -41,6 +43,14 @@ fn source_of(
         table,
         on,
     })
+}
+
+/// The first of the sources, so many.
+fn first_sources<'s, 'a>(all: &'s [Seen<'a>], count: usize) -> &'s [Seen<'a>]
+    requires { count ≤ length all.now }
+    ensures { result.now ≡ take count all.now }
+{
+    &all[..count]
 }
 
 fn sources_of(alloc: Global, catalog: &Catalog, all: &[Seen]) -> Result<Items<BoundSource>, Memory>
@@ -185,7 +195,7 @@ fn bound_by(
 }
 
 /// The first refusal of refs, aliases and kinds, of the kinds in their order.
-fn refused_part(all: &[Seen], statement: &Statement) -> Option<BindFault>
+fn refused_part(all: &Looked, statement: &Statement) -> Option<BindFault>
     ensures { result ≡ refused_part (parts_of all.now statement.now) }
 {
     if let Some(place) = first_place(Rule::UnknownColumn, all, statement) {
@@ -212,7 +222,9 @@ pub fn bind(alloc: Global, statement: &Statement, catalog: &Catalog) -> Result<B
         return Err(BindFault::UnknownTable { place });
     }
     let seen = seen_of(alloc, catalog, statement)?;
-    if let Some(fault) = refused_part(seen.as_slice(), statement) {
+    let index = index_of(alloc, seen.as_slice())?;
+    let looked = Looked::all(seen.as_slice(), index.as_ref());
+    if let Some(fault) = refused_part(&looked, statement) {
         return Err(fault);
     }
     if let Some(place) = ninth_source(statement) {

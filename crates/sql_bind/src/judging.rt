@@ -1,13 +1,13 @@
 // Refs and kinds that are refused.
 
-ghost use Rattle.std.specs.Prelude.{◌≡◌, bytes_eq};
-ghost use Rattle.std.specs.List.{list_any, list_all};
+ghost use Rattle.std.specs.Prelude.{◌≡◌};
+ghost use Rattle.std.specs.List.{list_all};
 ghost use Rattle.sql_bind.specs.Refusals.{unknown_ref, ambiguous_ref, repeated_alias, ref_kind, constant_kind, operand_kind, is_json, may_compare, may_stand, may_ask, operand_place, mismatched_test};
-ghost use Rattle.sql_bind.specs.Sources.{alias_of};
 
-use crate::fitting::{Fits, fits_of};
-use crate::sources::{Seen, alias_of, unless};
-use sp_value::{Kind, Text};
+use crate::fitting::Fits;
+use crate::looked::Looked;
+use crate::sources::{alias_of, unless};
+use sp_value::Kind;
 use sql_grammar::{Asked, Constant, Literal, Operand, Ref, Source};
 
 /// What is asked of each part of a statement.
@@ -18,42 +18,36 @@ pub(crate) enum Rule {
     TypeMismatch,
 }
 
-pub(crate) fn unknown_ref(looked: &[Seen], of: &Ref) -> Option<u64>
+pub(crate) fn unknown_ref(looked: &Looked, of: &Ref) -> Option<u64>
     ensures { result ≡ unknown_ref looked.now of.now }
 {
-    match fits_of(looked, of) {
+    match looked.fits_of(of) {
         Fits::None => Some(of.place),
         Fits::One(_) => None,
         Fits::Several => None,
     }
 }
 
-pub(crate) fn ambiguous_ref(looked: &[Seen], of: &Ref) -> Option<u64>
+pub(crate) fn ambiguous_ref(looked: &Looked, of: &Ref) -> Option<u64>
     ensures { result ≡ ambiguous_ref looked.now of.now }
 {
-    match fits_of(looked, of) {
+    match looked.fits_of(of) {
         Fits::None => None,
         Fits::One(_) => None,
         Fits::Several => Some(of.place),
     }
 }
 
-fn is_alias(before: &[Seen], alias: &Text) -> bool
-    ensures { result ≡ list_any (λ b. bytes_eq (alias_of b.source) alias.now) before.now }
-{
-    before.iter().any(|seen| *alias_of(seen.source()) == *alias)
-}
-
-pub(crate) fn repeated_alias(before: &[Seen], source: &Source) -> Option<u64>
+pub(crate) fn repeated_alias(before: &Looked, source: &Source) -> Option<u64>
     ensures { result ≡ repeated_alias before.now source.now }
 {
-    unless(!is_alias(before, alias_of(source)), source.connection.place)
+    unless(!before.has_alias(alias_of(source)), source.connection.place)
 }
 
-pub(crate) fn ref_kind(looked: &[Seen], of: &Ref) -> Option<Kind>
+pub(crate) fn ref_kind(looked: &Looked, of: &Ref) -> Option<Kind>
     ensures { result ≡ ref_kind looked.now of.now }
 {
-    match fits_of(looked, of) {
+    match looked.fits_of(of) {
         Fits::None => None,
         Fits::One(fit) => Some(fit.kind),
         Fits::Several => None,
@@ -71,7 +65,7 @@ fn constant_kind(constant: &Constant) -> Option<Kind>
     }
 }
 
-fn operand_kind(looked: &[Seen], operand: &Operand) -> Option<Kind>
+fn operand_kind(looked: &Looked, operand: &Operand) -> Option<Kind>
     ensures { result ≡ operand_kind looked.now operand.now }
 {
     match operand {
@@ -119,7 +113,7 @@ fn may_be_in(kind: Option<Kind>, list: &[Literal]) -> bool
     list.iter().all(|literal| may_compare(kind, constant_kind(&literal.constant)))
 }
 
-fn may_ask(looked: &[Seen], kind: Option<Kind>, asked: &Asked) -> bool
+fn may_ask(looked: &Looked, kind: Option<Kind>, asked: &Asked) -> bool
     ensures { result ≡ may_ask looked.now kind asked.now }
 {
     match asked {
@@ -139,7 +133,7 @@ fn operand_place(operand: &Operand) -> u64
     }
 }
 
-pub(crate) fn mismatched_test(looked: &[Seen], of: &Operand, asked: &Asked) -> Option<u64>
+pub(crate) fn mismatched_test(looked: &Looked, of: &Operand, asked: &Asked) -> Option<u64>
     ensures { result ≡ mismatched_test looked.now (record { of = of.now; asked = asked.now }) }
 {
     let fits = may_ask(looked, operand_kind(looked, of), asked);

@@ -11,11 +11,15 @@ mod catalog;
 mod conditions;
 mod fault;
 mod fitting;
+mod index;
 mod judging;
 mod laws;
+mod looked;
 mod needed;
+mod notes;
 mod sources;
 mod walking;
+mod wanted;
 
 pub use binding::bind;
 pub use bound::{

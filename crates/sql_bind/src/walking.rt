@@ -1,6 +1,6 @@
 // Where the parts of a statement break a rule first, in the order of the text.
 
-ghost use Rattle.std.specs.Prelude.{◌≡◌, ◌+◌, ◌<◌, ◌≤◌, length, map, take};
+ghost use Rattle.std.specs.Prelude.{◌≡◌, ◌+◌, ◌<◌, length, map, take};
 ghost use Rattle.std.specs.Option.{option_copied, option_or};
 ghost use Rattle.sql_bind.specs.First.{first_of};
 ghost use Rattle.sql_bind.specs.Parts.{Shows, Opens, Tests, Sorts, operand_refs, asked_refs, refs_of, shown_parts, condition_parts, source_parts, parts_of};
@@ -9,10 +9,11 @@ ghost use Rattle.sql_bind.specs.Refusals.{broken, broken_in};
 use crate::judging::{
     Rule, ambiguous_ref, is_json, mismatched_test, ref_kind, repeated_alias, unknown_ref,
 };
+use crate::looked::Looked;
 use crate::sources::{Seen, unless};
 use sql_grammar::{Asked, Expr, Item, Key, Operand, Ref, Shown, Source, Statement};
 
-fn ref_place(rule: Rule, looked: &[Seen], of: &Ref) -> Option<u64>
+fn ref_place(rule: Rule, looked: &Looked, of: &Ref) -> Option<u64>
     ensures { result ≡ broken rule (Shows looked.now of.now) }
 {
     match rule {
@@ -22,7 +23,7 @@ fn ref_place(rule: Rule, looked: &[Seen], of: &Ref) -> Option<u64>
     }
 }
 
-fn source_place(rule: Rule, before: &[Seen], source: &Source) -> Option<u64>
+fn source_place(rule: Rule, before: &Looked, source: &Source) -> Option<u64>
     ensures { result ≡ broken rule (Opens before.now source.now) }
 {
     match rule {
@@ -32,7 +33,7 @@ fn source_place(rule: Rule, before: &[Seen], source: &Source) -> Option<u64>
     }
 }
 
-fn key_place(rule: Rule, looked: &[Seen], key: &Key) -> Option<u64>
+fn key_place(rule: Rule, looked: &Looked, key: &Key) -> Option<u64>
     ensures { result ≡ broken rule (Sorts looked.now key.now) }
 {
     match rule {
@@ -42,7 +43,7 @@ fn key_place(rule: Rule, looked: &[Seen], key: &Key) -> Option<u64>
     }
 }
 
-fn operand_place(rule: Rule, looked: &[Seen], operand: &Operand) -> Option<u64>
+fn operand_place(rule: Rule, looked: &Looked, operand: &Operand) -> Option<u64>
     ensures { result ≡ first_of (λ r. broken rule (Shows looked.now r)) (operand_refs operand.now) }
 {
     match operand {
@@ -51,7 +52,7 @@ fn operand_place(rule: Rule, looked: &[Seen], operand: &Operand) -> Option<u64>
     }
 }
 
-fn asked_place(rule: Rule, looked: &[Seen], asked: &Asked) -> Option<u64>
+fn asked_place(rule: Rule, looked: &Looked, asked: &Asked) -> Option<u64>
     ensures { result ≡ first_of (λ r. broken rule (Shows looked.now r)) (asked_refs asked.now) }
 {
     match asked {
@@ -63,7 +64,7 @@ fn asked_place(rule: Rule, looked: &[Seen], asked: &Asked) -> Option<u64>
 }
 
 #[tactic(auto, using(crate::proofs::Firsts::first_of_append))]
-fn refs_place(rule: Rule, looked: &[Seen], of: &Operand, asked: &Asked) -> Option<u64>
+fn refs_place(rule: Rule, looked: &Looked, of: &Operand, asked: &Asked) -> Option<u64>
     ensures { result ≡ first_of (λ r. broken rule (Shows looked.now r)) (refs_of (record { of = of.now; asked = asked.now })) }
 {
     if let Some(place) = operand_place(rule, looked, of) {
@@ -72,7 +73,7 @@ fn refs_place(rule: Rule, looked: &[Seen], of: &Operand, asked: &Asked) -> Optio
     asked_place(rule, looked, asked)
 }
 
-fn test_place(rule: Rule, looked: &[Seen], of: &Operand, asked: &Asked) -> Option<u64>
+fn test_place(rule: Rule, looked: &Looked, of: &Operand, asked: &Asked) -> Option<u64>
     ensures { result ≡ broken rule (Tests looked.now (record { of = of.now; asked = asked.now })) }
 {
     match rule {
@@ -84,7 +85,7 @@ fn test_place(rule: Rule, looked: &[Seen], of: &Operand, asked: &Asked) -> Optio
 
 #[cycle(expr)]
 #[tactic(auto, using(crate::proofs::TestLaws::laws))]
-fn expr_place(rule: Rule, looked: &[Seen], e: &Expr) -> Option<u64>
+fn expr_place(rule: Rule, looked: &Looked, e: &Expr) -> Option<u64>
     ensures { result ≡ broken_in rule looked.now e.now }
 {
     match e {
@@ -96,7 +97,7 @@ fn expr_place(rule: Rule, looked: &[Seen], e: &Expr) -> Option<u64>
 }
 
 #[cycle(expr)]
-fn members_place(rule: Rule, looked: &[Seen], members: &[Expr]) -> Option<u64>
+fn members_place(rule: Rule, looked: &Looked, members: &[Expr]) -> Option<u64>
     ensures { result ≡ first_of (broken_in rule looked.now) members.now }
 {
     for member in members {
@@ -108,7 +109,7 @@ fn members_place(rule: Rule, looked: &[Seen], members: &[Expr]) -> Option<u64>
 }
 
 #[tactic(auto, unfolding(crate::specs::Refusals::broken_in))]
-fn condition_place(rule: Rule, looked: &[Seen], condition: Option<&Expr>) -> Option<u64>
+fn condition_place(rule: Rule, looked: &Looked, condition: Option<&Expr>) -> Option<u64>
     ensures { result ≡ first_of (broken rule) (condition_parts looked.now (option_copied condition.entry)) }
 {
     match condition {
@@ -117,37 +118,31 @@ fn condition_place(rule: Rule, looked: &[Seen], condition: Option<&Expr>) -> Opt
     }
 }
 
-/// The first of the sources, so many.
-pub(crate) fn first_sources<'s, 'a>(all: &'s [Seen<'a>], count: usize) -> &'s [Seen<'a>]
-    requires { count ≤ length all.now }
-    ensures { result.now ≡ take count all.now }
+fn seen_place(rule: Rule, before: &Looked, looked: &Looked, seen: &Seen) -> Option<u64>
+    ensures { result ≡ option_or (broken rule (Opens before.now seen.now.source)) (first_of (broken rule) (condition_parts looked.now seen.now.on)) }
 {
-    &all[..count]
-}
-
-fn seen_place(rule: Rule, all: &[Seen], n: usize, seen: &Seen) -> Option<u64>
-    requires { n < length all.now }
-    ensures { result ≡ option_or (broken rule (Opens (take n all.now) seen.now.source)) (first_of (broken rule) (condition_parts (take (n + 1) all.now) seen.now.on)) }
-{
-    if let Some(place) = source_place(rule, first_sources(all, n), seen.source()) {
+    if let Some(place) = source_place(rule, before, seen.source()) {
         return Some(place);
     }
-    condition_place(rule, first_sources(all, n + 1), seen.on())
+    condition_place(rule, looked, seen.on())
 }
 
 #[tactic(auto, using(crate::proofs::Firsts::first_of_append))]
-fn sources_place(rule: Rule, all: &[Seen]) -> Option<u64>
+fn sources_place(rule: Rule, all: &Looked) -> Option<u64>
     ensures { result ≡ first_of (broken rule) (source_parts all.now 0 all.now) }
 {
-    for (n, seen) in all.iter().enumerate() {
-        if let Some(place) = seen_place(rule, all, n, seen) {
+    let sources = all.sources();
+    for (n, seen) in sources.iter().enumerate() {
+        let before = all.first(n);
+        let looked = all.first(n + 1);
+        if let Some(place) = seen_place(rule, &before, &looked, seen) {
             return Some(place);
         }
     }
     None
 }
 
-fn items_place(rule: Rule, all: &[Seen], items: &[Item]) -> Option<u64>
+fn items_place(rule: Rule, all: &Looked, items: &[Item]) -> Option<u64>
     ensures { result ≡ first_of (broken rule) (map (λ i. Shows all.now i.of) items.now) }
 {
     for item in items {
@@ -158,7 +153,7 @@ fn items_place(rule: Rule, all: &[Seen], items: &[Item]) -> Option<u64>
     None
 }
 
-fn shown_place(rule: Rule, all: &[Seen], shown: &Shown) -> Option<u64>
+fn shown_place(rule: Rule, all: &Looked, shown: &Shown) -> Option<u64>
     ensures { result ≡ first_of (broken rule) (shown_parts all.now shown.now) }
 {
     match shown {
@@ -167,7 +162,7 @@ fn shown_place(rule: Rule, all: &[Seen], shown: &Shown) -> Option<u64>
     }
 }
 
-fn keys_place(rule: Rule, all: &[Seen], keys: &[Key]) -> Option<u64>
+fn keys_place(rule: Rule, all: &Looked, keys: &[Key]) -> Option<u64>
     ensures { result ≡ first_of (broken rule) (map (Sorts all.now) keys.now) }
 {
     for key in keys {
@@ -180,7 +175,7 @@ fn keys_place(rule: Rule, all: &[Seen], keys: &[Key]) -> Option<u64>
 
 /// The place of the first part that breaks a rule.
 #[tactic(auto, using(crate::proofs::Firsts::first_of_append))]
-pub(crate) fn first_place(rule: Rule, all: &[Seen], statement: &Statement) -> Option<u64>
+pub(crate) fn first_place(rule: Rule, all: &Looked, statement: &Statement) -> Option<u64>
     ensures { result ≡ first_of (broken rule) (parts_of all.now statement.now) }
 {
     if let Some(place) = shown_place(rule, all, &statement.shown) {
