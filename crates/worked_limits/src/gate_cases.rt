@@ -18,7 +18,7 @@ pub fn outcome(alloc: Global, call: &str, given: &[Vec<u8>]) -> Option<String> {
     }
 }
 
-fn gate_at(alloc: Global, given: &[Vec<u8>]) -> Option<Gate>
+pub fn gate_at(alloc: Global, given: &[Vec<u8>]) -> Option<Gate>
     ensures { IfSome result (λ g. AreHeld g.journal []) }
 {
     let limiters = limiters_of(alloc, str_at(given, 0)?)?;
@@ -93,7 +93,7 @@ fn answer(alloc: Global, came: Result<(), Wait>) -> Option<String> {
     }
 }
 
-fn given_back(
+pub fn given_back(
     alloc: Global,
     gate: &mut Gate,
     held: &mut Vec<Option<Used>>,
@@ -122,7 +122,7 @@ fn turns(alloc: Global, given: &[Vec<u8>]) -> Option<String> {
     format!(in alloc; "{granted}").ok()
 }
 
-fn calls_of(alloc: Global, count: u32) -> Option<Vec<CallTags>> {
+pub fn calls_of(alloc: Global, count: u32) -> Option<Vec<CallTags>> {
     let mut calls = Vec::new(alloc);
     for number in 0..count {
         let name = format!(in alloc; "c{number}").ok()?;

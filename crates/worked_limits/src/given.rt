@@ -11,7 +11,8 @@ use sp_value::{Text, Texts};
 use sqlite_items::Items;
 use std::alloc::Global;
 
-fn text_of(alloc: Global, text: &str) -> Option<Text> {
+/// A text as values have it.
+pub fn text_of(alloc: Global, text: &str) -> Option<Text> {
     Text::from_str(alloc, text).ok()
 }
 

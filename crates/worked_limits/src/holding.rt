@@ -4,7 +4,10 @@ ghost use Rattle.std.specs.Prelude.{◌≡◌, ◌≤◌, ◌<◌, ◌+◌, ◌^
 ghost use Rattle.rate_gate.specs.Journal.{last_tick};
 ghost use Rattle.worked_limits.specs.Held.{AreOpen, AreHeld};
 
+use call_jobs::Job;
+use call_queue::{Picked, Queue};
 use rate_gate::{CallTags, Gate, Used, Wait};
+use sp_value::Text;
 use std::alloc::Global;
 
 /// The last tick.
@@ -37,6 +40,34 @@ pub fn ask(
     let permit = gate.ask(alloc, tags, tick)?;
     held.push_reserved(Some(permit.into_used()));
     Ok(())
+}
+
+/// Picks a job of a connection, and holds its grant; else the least tick at which there may be one, where one is known.
+pub fn pick(
+    alloc: Global,
+    queue: &mut Queue,
+    gate: &mut Gate,
+    held: &mut Vec<Option<Used>>,
+    connection: &Text,
+    tick: u64,
+) -> Option<Result<Job, Option<u64>>>
+    requires held { AreHeld gate.old.journal held.old.items }
+    requires since { last_tick gate.old.journal ≤ tick }
+    requires range { tick ≤ 2 ^ 62 }
+    ensures { AreHeld gate.new.journal held.new.items }
+{
+    let Ok(()) = held.reserve(1) else {
+        return None;
+    };
+    let _ = gate.journal().entries();
+    match queue.pick(alloc, connection, gate, tick) {
+        Picked::Job(job, permit) => {
+            held.push_reserved(Some(permit.into_used()));
+            Some(Ok(job))
+        }
+        Picked::NoneReady { next } => Some(Err(next)),
+        Picked::Memory => None,
+    }
 }
 
 /// Takes out what stands at a place.
