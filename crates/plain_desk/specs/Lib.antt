@@ -1,2 +1,3 @@
 pub mod Grants
+pub mod Lost
 pub mod Slots

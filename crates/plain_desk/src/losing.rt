@@ -1,8 +1,8 @@
-ghost use Rattle.std.specs.Prelude.{◌≡◌, ◌≤◌, ◌^◌, [], Some, vec_len, IfSome};
+ghost use Rattle.std.specs.Prelude.{◌≡◌, ◌≤◌, ◌^◌, [], true, Some, IfSome};
 ghost use Rattle.rate_gate.specs.Journal.{IsOpen, last_tick};
 ghost use Rattle.plain_desk.specs.Grants.{AreHeld};
-ghost use Rattle.plain_desk.specs.Slots.{Keeps, Stands, returned};
-ghost use Rattle.plain_desk.specs.declared.stage.Stage.TheVariants as stage;
+ghost use Rattle.plain_desk.specs.Lost.{HasLost};
+ghost use Rattle.plain_desk.specs.Slots.{IsSlot, Keeps, is_gone, returned};
 
 use crate::slot_parts::SlotParts;
 use crate::stage::Stage;
@@ -59,13 +59,12 @@ pub(crate) fn end_flights(gate: &mut Gate, flights: Vec<Flight>, tick: u64)
     flights.destroy_empty();
 }
 
-/// A child is gone: its open calls end, and what waits for it is dropped.
+/// A child that was lost is gone: its open calls end, and what waits for it is dropped.
 pub(crate) fn lose<W: World, C: Child<W>>(alloc: Global, parts: &mut SlotParts<W, C>)
-    requires { Keeps parts.old.link.flights.items parts.old.gate.journal parts.old.tick }
-    ensures keeps { Keeps parts.new.link.flights.items parts.new.gate.journal parts.new.tick }
-    ensures stands { Stands parts.new.stage parts.new.link.up parts.new.link.flights.items (vec_len parts.new.waiting) parts.new.link.prepared }
-    ensures gone { parts.new.stage ≡ stage.Gone }
-    ensures none { parts.new.link.flights.items ≡ [] }
+    requires keeps { Keeps parts.old.link.flights.items parts.old.gate.journal parts.old.tick }
+    requires lost { HasLost W.tells W.book C.faulted C.gives parts.old.link.child }
+    ensures slot { IsSlot (HasLost W.tells W.book C.faulted C.gives) parts.new }
+    ensures gone { is_gone parts.new.stage ≡ true }
     ensures own { C.connection parts.new.link.child ≡ C.connection parts.old.link.child }
 {
     let flights = parts.link.reissue(alloc);

@@ -1,6 +1,10 @@
 ghost use Rattle.std.specs.Prelude.{◌≡◌, ◌<◌, [], length, map, OnOk, vec_len, vec_capacity};
+ghost use Rattle.std.specs.VecDeque.{deque_len, deque_capacity};
+ghost use Rattle.std.proofs.Props.{props};
 ghost use Rattle.call_jobs.specs.Jobs.{asked_by, function_by};
 ghost use Rattle.sp_world.specs.RequestLines.{IsAskedForm};
+ghost use Rattle.plain_desk.specs.Lost.{HasLost, KeepGone, AreGone};
+ghost use Rattle.plain_desk.specs.Slots.{AreBeside};
 
 use crate::posts::{Post, Posts, next_mail, post_gone};
 use crate::running::{Ran, forget_all, run_slots};
@@ -13,10 +17,11 @@ use sp_outside::{Child, Clock};
 use sp_value::{Memory, Text};
 use sp_world::{Kept, World};
 use std::alloc::Global;
+use std::collections::VecDeque;
 use std::sync::Arc;
 
 /// A desk over one slot for each plain connection of the settings, in their order. It keeps no scan. All that it tells of its steps is that
-/// the slots keep their connections.
+/// the slots keep their connections; a connection is gone only where the child of its slot was lost.
 pub struct PlainDesk<'a, W: World, C: Child<W>, K: Clock> {
     alloc: Global,
     settings: Settings,
@@ -27,6 +32,8 @@ pub struct PlainDesk<'a, W: World, C: Child<W>, K: Clock> {
     gone: Vec<(u32, u32)>,
     posts: Posts<W>,
     turn: usize,
+    pub ghost own: { AreBeside C.connection slots.items settings.connections },
+    pub ghost lost: { AreGone (HasLost W.tells W.book C.faulted C.gives) slots.items gone.items } by { Prim.hlevel props },
 }
 
 /// The place of a name among the plain connections.
@@ -54,6 +61,7 @@ fn wait_at<W: World, C: Child<W>>(
     requires within { at < length slots.old.items }
     requires form { IsAskedForm (function_by job) (asked_by job) }
     ensures own { map (λ s. C.connection s.link.child) slots.new.items ≡ map (λ s. C.connection s.link.child) slots.old.items }
+    ensures gone { KeepGone (HasLost W.tells W.book C.faulted C.gives) slots.old.items slots.new.items }
 {
     let slot = &mut slots[at];
     slot.submit(alloc, job)
@@ -70,6 +78,7 @@ fn submit_at<W: World, C: Child<W>>(
 ) -> Result<(), Job>
     requires { IsAskedForm (function_by job) (asked_by job) }
     ensures own { map (λ s. C.connection s.link.child) slots.new.items ≡ map (λ s. C.connection s.link.child) slots.old.items }
+    ensures gone { KeepGone (HasLost W.tells W.book C.faulted C.gives) slots.old.items slots.new.items }
 {
     if place >= slots.len() {
         return Err(job);
@@ -87,8 +96,8 @@ fn submit_at<W: World, C: Child<W>>(
 fn make_room<W: World>(gone: &mut Vec<(u32, u32)>, posts: &mut Posts<W>) -> Result<(), Memory>
     ensures gone { gone.new.items ≡ gone.old.items }
     ensures room { OnOk result (vec_len gone.new < vec_capacity gone.new) }
-    ensures pieces { OnOk result (vec_len posts.new.pieces < vec_capacity posts.new.pieces) }
-    ensures news { OnOk result (vec_len posts.new.news < vec_capacity posts.new.news) }
+    ensures pieces { OnOk result (deque_len posts.new.pieces < deque_capacity posts.new.pieces) }
+    ensures news { OnOk result (deque_len posts.new.news < deque_capacity posts.new.news) }
 {
     gone.reserve(1)?;
     posts.pieces.reserve(1)?;
@@ -105,6 +114,7 @@ impl<'a, W: World, C: Child<W>, K: Clock> PlainDesk<'a, W, C, K> {
         slots: Vec<Slot<W, C>>,
         clock: &'a K,
     ) -> PlainDesk<'a, W, C, K>
+        requires own { AreBeside C.connection slots.items settings.connections }
         ensures settings { result.settings ≡ settings }
         ensures slots { result.slots ≡ slots }
         ensures none { (result.clock.tick ≡ 0) × (result.scans ≡ 0) × (result.gone.items ≡ []) }
@@ -118,16 +128,18 @@ impl<'a, W: World, C: Child<W>, K: Clock> PlainDesk<'a, W, C, K> {
             scans: 0,
             gone: Vec::new(alloc),
             posts: Posts {
-                pieces: Vec::new(alloc),
-                news: Vec::new(alloc),
+                pieces: VecDeque::new(alloc),
+                news: VecDeque::new(alloc),
             },
             turn: 0,
         }
     }
 
-    /// The slots, in the order in which they were handed in.
+    /// The slots, in the order in which they were handed in. Each connection that is gone has its slot there, which lost its child once.
     pub fn into_slots(self) -> Vec<Slot<W, C>>
-        ensures { result ≡ self.entry.slots }
+        ensures slots { result ≡ self.entry.slots }
+        ensures own { AreBeside C.connection result.items self.entry.settings.connections }
+        ensures gone { AreGone (HasLost W.tells W.book C.faulted C.gives) result.items self.entry.gone.items }
     {
         let PlainDesk {
             alloc: _,
@@ -193,14 +205,14 @@ impl<'a, W: World, C: Child<W>, K: Clock> Desk<W> for PlainDesk<'a, W, C, K> {
         let tick = self.clock.present();
         match run_slots(self.alloc, &mut self.slots, self.turn, tick) {
             Ran::Told { seat, told } => {
-                self.posts.pieces.push_reserved(Post { seat, told });
+                self.posts.pieces.push_back_reserved(Post { seat, told });
                 Driven::Moved
             }
             Ran::Lost(place) => {
                 let Ok(number) = u32::try_from(place) else {
                     return Driven::Memory;
                 };
-                self.posts.news.push_reserved(self.gone.len());
+                self.posts.news.push_back_reserved(self.gone.len());
                 self.gone.push_reserved((number, 1));
                 Driven::Moved
             }

@@ -1,10 +1,11 @@
-ghost use Rattle.std.specs.Prelude.{◌≡◌, ◌<◌, IfSome, IfErr, vec_len, vec_capacity};
+ghost use Rattle.std.specs.Prelude.{◌≡◌, IfSome, IfErr};
 ghost use Rattle.desk.specs.Posted.{IsKnown};
 
 use call_jobs::Job;
 use desk::Mail;
 use sp_model::Seat;
 use sp_world::{ToldLine, World};
+use std::collections::VecDeque;
 
 /// What is told for a seat.
 #[derive(Drop)]
@@ -17,22 +18,18 @@ pub(crate) struct Post<W: World> {
 /// for.
 #[derive(Drop)]
 pub(crate) struct Posts<W: World> {
-    pub(crate) pieces: Vec<Post<W>>,
-    pub(crate) news: Vec<usize>,
+    pub(crate) pieces: VecDeque<Post<W>>,
+    pub(crate) news: VecDeque<usize>,
 }
 
 /// The next of what a session isn't told yet: first what was told for its seats.
 pub(crate) fn next_mail<W: World>(posts: &mut Posts<W>, gone: &[(u32, u32)]) -> Option<Mail<W>>
     ensures { IfSome result (IsKnown gone.now) }
 {
-    if !posts.pieces.is_empty() {
-        let Post { seat, told } = posts.pieces.remove(0);
+    if let Some(Post { seat, told }) = posts.pieces.pop_front() {
         return Some(Mail::Piece { seat, told });
     }
-    if posts.news.is_empty() {
-        return None;
-    }
-    let place = posts.news.remove(0);
+    let place = posts.news.pop_front()?;
     mail_at(gone, place)
 }
 
@@ -57,7 +54,7 @@ pub(crate) fn post_gone<W: World>(
     ensures { IfErr result (λ back. back ≡ job) }
 {
     match gone.iter().position(|found| found.0 == number) {
-        Some(place) => match posts.news.push(place) {
+        Some(place) => match posts.news.push_back(place) {
             Ok(()) => Ok(()),
             Err(_) => Err(job),
         },

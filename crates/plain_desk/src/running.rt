@@ -1,4 +1,5 @@
-ghost use Rattle.std.specs.Prelude.{◌≡◌, ◌≤◌, ◌<◌, ◌^◌, length, map};
+ghost use Rattle.std.specs.Prelude.{◌≡◌, ◌≤◌, ◌<◌, ◌^◌, length, map, IfSome};
+ghost use Rattle.plain_desk.specs.Lost.{HasLost, IsGoneAt, KeepGone, IfLoss};
 
 use crate::slot::Slot;
 use crate::stepping::Stepped;
@@ -28,6 +29,8 @@ fn step_at<W: World, C: Child<W>>(
     requires small { tick ≤ 2 ^ 62 }
     ensures len { length slots.new.items ≡ length slots.old.items }
     ensures own { map (λ s. C.connection s.link.child) slots.new.items ≡ map (λ s. C.connection s.link.child) slots.old.items }
+    ensures gone { KeepGone (HasLost W.tells W.book C.faulted C.gives) slots.old.items slots.new.items }
+    ensures lost { IfSome result (λ ran. IfLoss ran (IsGoneAt (HasLost W.tells W.book C.faulted C.gives) slots.new.items)) }
 {
     let slot = &mut slots[at];
     match slot.step(alloc, tick) {
@@ -65,6 +68,8 @@ pub(crate) fn run_slots<W: World, C: Child<W>>(
     requires { tick ≤ 2 ^ 62 }
     ensures len { length slots.new.items ≡ length slots.old.items }
     ensures own { map (λ s. C.connection s.link.child) slots.new.items ≡ map (λ s. C.connection s.link.child) slots.old.items }
+    ensures gone { KeepGone (HasLost W.tells W.book C.faulted C.gives) slots.old.items slots.new.items }
+    ensures lost { IfLoss result (IsGoneAt (HasLost W.tells W.book C.faulted C.gives) slots.new.items) }
 {
     if first < slots.len() {
         if let Some(ran) = step_at(alloc, slots, first, tick) {
@@ -84,6 +89,7 @@ fn forget_at<W: World, C: Child<W>>(slots: &mut Vec<Slot<W, C>>, at: usize)
     requires { at < length slots.old.items }
     ensures len { length slots.new.items ≡ length slots.old.items }
     ensures own { map (λ s. C.connection s.link.child) slots.new.items ≡ map (λ s. C.connection s.link.child) slots.old.items }
+    ensures gone { KeepGone (HasLost W.tells W.book C.faulted C.gives) slots.old.items slots.new.items }
 {
     let slot = &mut slots[at];
     slot.forget();
@@ -92,6 +98,7 @@ fn forget_at<W: World, C: Child<W>>(slots: &mut Vec<Slot<W, C>>, at: usize)
 /// Drops what waits.
 pub(crate) fn forget_all<W: World, C: Child<W>>(slots: &mut Vec<Slot<W, C>>)
     ensures own { map (λ s. C.connection s.link.child) slots.new.items ≡ map (λ s. C.connection s.link.child) slots.old.items }
+    ensures gone { KeepGone (HasLost W.tells W.book C.faulted C.gives) slots.old.items slots.new.items }
 {
     for at in 0..slots.len() {
         forget_at(slots, at);

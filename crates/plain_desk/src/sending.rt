@@ -1,5 +1,7 @@
-ghost use Rattle.std.specs.Prelude.{◌≡◌, ◌≤◌, ◌<◌, ◌+◌, [], true, length, Some, IfSome, OnOk, slice_get, vec_len};
-ghost use Rattle.plain_desk.specs.Slots.{Keeps, Stands, is_running};
+ghost use Rattle.std.specs.Prelude.{◌≡◌, ◌≤◌, ◌<◌, [], true, length, Some, Err, IfSome, OnOk, slice_get};
+ghost use Rattle.plain_desk.specs.Lost.{HasLost};
+ghost use Rattle.plain_desk.specs.Slots.{IsSlot, is_gone, is_running};
+ghost use Rattle.plain_desk.specs.declared.sending.Unsent.TheVariants as unsent;
 
 use crate::losing::lose;
 use crate::slot_parts::SlotParts;
@@ -51,10 +53,9 @@ fn has_room(flights: &[Flight], call: &Prepared) -> bool {
 
 /// Starts a child that isn't started.
 fn start_up<W: World, C: Child<W>>(alloc: Global, parts: &mut SlotParts<W, C>) -> Result<(), Unsent>
-    requires keeps { Keeps parts.old.link.flights.items parts.old.gate.journal parts.old.tick }
-    requires stands { Stands parts.old.stage parts.old.link.up parts.old.link.flights.items (vec_len parts.old.waiting) parts.old.link.prepared }
-    ensures keeps { Keeps parts.new.link.flights.items parts.new.gate.journal parts.new.tick }
-    ensures stands { Stands parts.new.stage parts.new.link.up parts.new.link.flights.items (vec_len parts.new.waiting) parts.new.link.prepared }
+    requires slot { IsSlot (HasLost W.tells W.book C.faulted C.gives) parts.old }
+    ensures slot { IsSlot (HasLost W.tells W.book C.faulted C.gives) parts.new }
+    ensures gone { result ≡ Err unsent.Lost → is_gone parts.new.stage ≡ true }
     ensures running { OnOk result (is_running parts.new.stage ≡ true) }
     ensures same { OnOk result ((parts.new.waiting ≡ parts.old.waiting) × (parts.new.tick ≡ parts.old.tick)) }
     ensures own { C.connection parts.new.link.child ≡ C.connection parts.old.link.child }
@@ -85,10 +86,9 @@ fn send_at<W: World, C: Child<W>>(
     requires within { at < length parts.old.waiting.items }
     requires due { (p : Prepared) → slice_get parts.old.waiting.items at ≡ Some p → p.job.due ≤ parts.old.tick }
     requires running { is_running parts.old.stage ≡ true }
-    requires keeps { Keeps parts.old.link.flights.items parts.old.gate.journal parts.old.tick }
-    requires stands { Stands parts.old.stage parts.old.link.up parts.old.link.flights.items (vec_len parts.old.waiting) parts.old.link.prepared }
-    ensures keeps { Keeps parts.new.link.flights.items parts.new.gate.journal parts.new.tick }
-    ensures stands { Stands parts.new.stage parts.new.link.up parts.new.link.flights.items (vec_len parts.new.waiting) parts.new.link.prepared }
+    requires slot { IsSlot (HasLost W.tells W.book C.faulted C.gives) parts.old }
+    ensures slot { IsSlot (HasLost W.tells W.book C.faulted C.gives) parts.new }
+    ensures gone { result ≡ Err unsent.Lost → is_gone parts.new.stage ≡ true }
     ensures own { C.connection parts.new.link.child ≡ C.connection parts.old.link.child }
 {
     if parts.link.child().sent() >= LAST_CALL {
@@ -117,10 +117,9 @@ fn send_next<W: World, C: Child<W>>(
     alloc: Global,
     parts: &mut SlotParts<W, C>,
 ) -> Result<bool, Unsent>
-    requires keeps { Keeps parts.old.link.flights.items parts.old.gate.journal parts.old.tick }
-    requires stands { Stands parts.old.stage parts.old.link.up parts.old.link.flights.items (vec_len parts.old.waiting) parts.old.link.prepared }
-    ensures keeps { Keeps parts.new.link.flights.items parts.new.gate.journal parts.new.tick }
-    ensures stands { Stands parts.new.stage parts.new.link.up parts.new.link.flights.items (vec_len parts.new.waiting) parts.new.link.prepared }
+    requires slot { IsSlot (HasLost W.tells W.book C.faulted C.gives) parts.old }
+    ensures slot { IsSlot (HasLost W.tells W.book C.faulted C.gives) parts.new }
+    ensures gone { result ≡ Err unsent.Lost → is_gone parts.new.stage ≡ true }
     ensures own { C.connection parts.new.link.child ≡ C.connection parts.old.link.child }
 {
     let Some(at) = first_due(&parts.waiting, parts.tick) else {
@@ -139,10 +138,9 @@ pub(crate) fn send_due<W: World, C: Child<W>>(
     alloc: Global,
     parts: &mut SlotParts<W, C>,
 ) -> Result<(), Unsent>
-    requires keeps { Keeps parts.old.link.flights.items parts.old.gate.journal parts.old.tick }
-    requires stands { Stands parts.old.stage parts.old.link.up parts.old.link.flights.items (vec_len parts.old.waiting) parts.old.link.prepared }
-    ensures keeps { Keeps parts.new.link.flights.items parts.new.gate.journal parts.new.tick }
-    ensures stands { Stands parts.new.stage parts.new.link.up parts.new.link.flights.items (vec_len parts.new.waiting) parts.new.link.prepared }
+    requires slot { IsSlot (HasLost W.tells W.book C.faulted C.gives) parts.old }
+    ensures slot { IsSlot (HasLost W.tells W.book C.faulted C.gives) parts.new }
+    ensures gone { result ≡ Err unsent.Lost → is_gone parts.new.stage ≡ true }
     ensures own { C.connection parts.new.link.child ≡ C.connection parts.old.link.child }
 {
     for _ in 0..parts.waiting.len() {

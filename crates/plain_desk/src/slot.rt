@@ -1,7 +1,8 @@
-ghost use Rattle.std.specs.Prelude.{◌≡◌, ◌≤◌, ◌^◌, [], IfErr, IfOk, vec_len};
+ghost use Rattle.std.specs.Prelude.{◌≡◌, ◌≤◌, ◌^◌, [], true, IfErr, IfOk};
 ghost use Rattle.call_jobs.specs.Jobs.{asked_by, function_by};
 ghost use Rattle.sp_world.specs.RequestLines.{IsAskedForm};
-ghost use Rattle.plain_desk.specs.Slots.{Keeps, Stands};
+ghost use Rattle.plain_desk.specs.Lost.{HasLost, IsGone, is_loss};
+ghost use Rattle.plain_desk.specs.Slots.{IsSlot, is_gone};
 
 use crate::losing::end_flights;
 use crate::slot_parts::SlotParts;
@@ -21,10 +22,10 @@ pub struct Slot<W: World, C: Child<W>> {
 }
 
 impl<W: World, C: Child<W>> Model for Slot<W, C> {
-    ghost use Rattle.std.specs.Prelude.{vec_len};
     ghost use Rattle.std.specs.Coded.{codes};
     ghost use Rattle.sp_value.specs.contracts.cell.Cell as cells;
-    ghost use Rattle.plain_desk.specs.Slots.{Keeps, Stands};
+    ghost use Rattle.plain_desk.specs.Lost.{HasLost};
+    ghost use Rattle.plain_desk.specs.Slots.{IsSlot};
     ghost use Rattle.plain_desk.specs.declared.slot_parts.SlotParts.{SlotParts};
 
     ghost Value = { SlotParts W C };
@@ -33,7 +34,7 @@ impl<W: World, C: Child<W>> Model for Slot<W, C> {
 
     ghost view = { λ s. s.parts };
 
-    ghost invariant = { λ s. Keeps s.parts.link.flights.items s.parts.gate.journal s.parts.tick × Stands s.parts.stage s.parts.link.up s.parts.link.flights.items (vec_len s.parts.waiting) s.parts.link.prepared };
+    ghost invariant = { λ s. IsSlot (HasLost W.tells W.book C.faulted C.gives) s.parts };
 }
 
 /// Has a job wait.
@@ -43,12 +44,10 @@ fn wait_for<W: World, C: Child<W>>(
     job: Job,
 ) -> Result<(), Job>
     requires form { IsAskedForm (function_by job) (asked_by job) }
-    requires keeps { Keeps parts.old.link.flights.items parts.old.gate.journal parts.old.tick }
-    requires stands { Stands parts.old.stage parts.old.link.up parts.old.link.flights.items (vec_len parts.old.waiting) parts.old.link.prepared }
-    ensures keeps { Keeps parts.new.link.flights.items parts.new.gate.journal parts.new.tick }
-    ensures stands { Stands parts.new.stage parts.new.link.up parts.new.link.flights.items (vec_len parts.new.waiting) parts.new.link.prepared }
+    requires slot { IsSlot (HasLost W.tells W.book C.faulted C.gives) parts.old }
+    ensures slot { IsSlot (HasLost W.tells W.book C.faulted C.gives) parts.new }
     ensures err { IfErr result (λ back. back ≡ job) }
-    ensures own { C.connection parts.new.link.child ≡ C.connection parts.old.link.child }
+    ensures same { (parts.new.stage ≡ parts.old.stage) × (parts.new.link.child ≡ parts.old.link.child) }
 {
     let Ok(()) = parts.waiting.reserve(1) else {
         return Err(job);
@@ -64,11 +63,9 @@ fn wait_for<W: World, C: Child<W>>(
 
 /// Drops what waits.
 fn forget_all<W: World, C: Child<W>>(parts: &mut SlotParts<W, C>)
-    requires keeps { Keeps parts.old.link.flights.items parts.old.gate.journal parts.old.tick }
-    requires stands { Stands parts.old.stage parts.old.link.up parts.old.link.flights.items (vec_len parts.old.waiting) parts.old.link.prepared }
-    ensures keeps { Keeps parts.new.link.flights.items parts.new.gate.journal parts.new.tick }
-    ensures stands { Stands parts.new.stage parts.new.link.up parts.new.link.flights.items (vec_len parts.new.waiting) parts.new.link.prepared }
-    ensures own { C.connection parts.new.link.child ≡ C.connection parts.old.link.child }
+    requires slot { IsSlot (HasLost W.tells W.book C.faulted C.gives) parts.old }
+    ensures slot { IsSlot (HasLost W.tells W.book C.faulted C.gives) parts.new }
+    ensures same { (parts.new.stage ≡ parts.old.stage) × (parts.new.link.child ≡ parts.old.link.child) }
 {
     parts.waiting.clear();
 }
@@ -80,12 +77,13 @@ impl<W: World, C: Child<W>> Slot<W, C> {
         ensures err { IfErr result (λ back. back ≡ child) }
     {
         match Gate::of(alloc, &[]) {
-            Ok(gate) => Ok(Slot::of(alloc, child, gate)),
+            Ok(gate) => Ok(Slot::over(alloc, child, gate)),
             Err(_) => Err(child),
         }
     }
 
-    fn of(alloc: Global, child: C, gate: Gate) -> Slot<W, C>
+    /// The slot of a child that isn't started, with a gate that has granted nothing.
+    pub fn over(alloc: Global, child: C, gate: Gate) -> Slot<W, C>
         requires { gate.journal ≡ [] }
         ensures { result.link.child ≡ child }
     {
@@ -100,11 +98,11 @@ impl<W: World, C: Child<W>> Slot<W, C> {
         }
     }
 
-    /// Its parts. Calls are open at a running child alone; each was due when it was sent, and has a grant of its own that is open.
+    /// Its parts. Calls are open at a running child alone; each was due when it was sent, and has a grant of its own that is open. A child
+    /// that is gone was lost.
     pub fn parts(&self) -> &SlotParts<W, C>
         ensures value { result.now ≡ self.now }
-        ensures keeps { Keeps self.now.link.flights.items self.now.gate.journal self.now.tick }
-        ensures stands { Stands self.now.stage self.now.link.up self.now.link.flights.items (vec_len self.now.waiting) self.now.link.prepared }
+        ensures slot { IsSlot (HasLost W.tells W.book C.faulted C.gives) self.now }
     {
         &self.parts
     }
@@ -114,27 +112,37 @@ impl<W: World, C: Child<W>> Slot<W, C> {
         requires form { IsAskedForm (function_by job) (asked_by job) }
         ensures err { IfErr result (λ back. back ≡ job) }
         ensures own { C.connection self.new.link.child ≡ C.connection self.old.link.child }
+        ensures gone { IsGone (HasLost W.tells W.book C.faulted C.gives) self.old → IsGone (HasLost W.tells W.book C.faulted C.gives) self.new }
     {
         wait_for(alloc, &mut self.parts, job)
     }
 
     /// Drops what waits.
     pub(crate) fn forget(&mut self)
-        ensures { C.connection self.new.link.child ≡ C.connection self.old.link.child }
+        ensures own { C.connection self.new.link.child ≡ C.connection self.old.link.child }
+        ensures gone { IsGone (HasLost W.tells W.book C.faulted C.gives) self.old → IsGone (HasLost W.tells W.book C.faulted C.gives) self.new }
     {
         forget_all(&mut self.parts);
     }
 
-    /// Sends the calls that are due at a tick and for which there is room, and receives one line where calls are open.
+    /// Sends the calls that are due at a tick and for which there is room, and receives one line where calls are open. Where the child is
+    /// gone nothing is done.
     pub(crate) fn step(&mut self, alloc: Global, tick: u64) -> Stepped<W>
         requires { tick ≤ 2 ^ 62 }
-        ensures { C.connection self.new.link.child ≡ C.connection self.old.link.child }
+        ensures own { C.connection self.new.link.child ≡ C.connection self.old.link.child }
+        ensures gone { IsGone (HasLost W.tells W.book C.faulted C.gives) self.old → IsGone (HasLost W.tells W.book C.faulted C.gives) self.new }
+        ensures lost { is_loss result ≡ true → IsGone (HasLost W.tells W.book C.faulted C.gives) self.new }
     {
+        if self.is_gone() {
+            return Stepped::Idle;
+        }
         step_slot(alloc, &mut self.parts, tick)
     }
 
     /// Whether the child was lost.
-    pub(crate) fn is_gone(&self) -> bool {
+    pub(crate) fn is_gone(&self) -> bool
+        ensures { result ≡ is_gone self.now.stage }
+    {
         self.parts.stage == Stage::Gone
     }
 
@@ -145,7 +153,7 @@ impl<W: World, C: Child<W>> Slot<W, C> {
 
     /// The child. What is open or waits is dropped.
     pub fn into_child(self, alloc: Global) -> C
-        ensures { C.connection result ≡ C.connection self.link.child }
+        ensures { result ≡ self.link.child }
     {
         let Slot { parts } = self;
         let SlotParts {

@@ -1,5 +1,6 @@
-ghost use Rattle.std.specs.Prelude.{◌≡◌, ◌≢◌, ◌≤◌, ◌^◌, [], vec_len};
-ghost use Rattle.plain_desk.specs.Slots.{Keeps, Stands};
+ghost use Rattle.std.specs.Prelude.{◌≡◌, ◌≢◌, ◌≤◌, ◌^◌, [], true};
+ghost use Rattle.plain_desk.specs.Lost.{HasLost, is_loss};
+ghost use Rattle.plain_desk.specs.Slots.{IsSlot, is_gone};
 
 use crate::losing::{lose, return_grant};
 use crate::sending::{Unsent, send_due};
@@ -22,10 +23,9 @@ pub(crate) enum Stepped<W: World> {
 /// Receives one line of a child that has open calls.
 fn receive_one<W: World, C: Child<W>>(alloc: Global, parts: &mut SlotParts<W, C>) -> Stepped<W>
     requires some { parts.old.link.flights.items ≢ [] }
-    requires keeps { Keeps parts.old.link.flights.items parts.old.gate.journal parts.old.tick }
-    requires stands { Stands parts.old.stage parts.old.link.up parts.old.link.flights.items (vec_len parts.old.waiting) parts.old.link.prepared }
-    ensures keeps { Keeps parts.new.link.flights.items parts.new.gate.journal parts.new.tick }
-    ensures stands { Stands parts.new.stage parts.new.link.up parts.new.link.flights.items (vec_len parts.new.waiting) parts.new.link.prepared }
+    requires slot { IsSlot (HasLost W.tells W.book C.faulted C.gives) parts.old }
+    ensures slot { IsSlot (HasLost W.tells W.book C.faulted C.gives) parts.new }
+    ensures gone { is_loss result ≡ true → is_gone parts.new.stage ≡ true }
     ensures own { C.connection parts.new.link.child ≡ C.connection parts.old.link.child }
 {
     match parts.link.receive(alloc) {
@@ -55,10 +55,9 @@ pub(crate) fn step_slot<W: World, C: Child<W>>(
     tick: u64,
 ) -> Stepped<W>
     requires small { tick ≤ 2 ^ 62 }
-    requires keeps { Keeps parts.old.link.flights.items parts.old.gate.journal parts.old.tick }
-    requires stands { Stands parts.old.stage parts.old.link.up parts.old.link.flights.items (vec_len parts.old.waiting) parts.old.link.prepared }
-    ensures keeps { Keeps parts.new.link.flights.items parts.new.gate.journal parts.new.tick }
-    ensures stands { Stands parts.new.stage parts.new.link.up parts.new.link.flights.items (vec_len parts.new.waiting) parts.new.link.prepared }
+    requires slot { IsSlot (HasLost W.tells W.book C.faulted C.gives) parts.old }
+    ensures slot { IsSlot (HasLost W.tells W.book C.faulted C.gives) parts.new }
+    ensures gone { is_loss result ≡ true → is_gone parts.new.stage ≡ true }
     ensures own { C.connection parts.new.link.child ≡ C.connection parts.old.link.child }
 {
     parts.tick = parts.tick.max(tick);

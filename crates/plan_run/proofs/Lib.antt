@@ -1,1 +1,2 @@
 pub mod AllReady
+mod Ended

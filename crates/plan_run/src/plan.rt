@@ -54,7 +54,8 @@ fn run_sources<R: Wait, W: World, D: Desk<W>>(
 }
 
 /// Answers a statement of a plan, whatever the desk answers and in whatever order: with the rows of its course at the versions of the notes,
-/// with its first failing scan, by the spent budget of a connection of which the next scan is needed, or for want of memory.
+/// with its first failing scan, by the spent budget of a connection of which the next scan is needed, or for want of memory. The desk then
+/// drops what of its calls still waits.
 pub fn run_plan<R: Wait, W: World, D: Desk<W>>(
     rt: &R,
     alloc: Global,
@@ -71,5 +72,6 @@ pub fn run_plan<R: Wait, W: World, D: Desk<W>>(
 {
     let mut notes: ScanNotes = Items::new(alloc);
     let end = run_sources::<R, W, D>(rt, alloc, desk, settings, plan, &mut notes);
+    desk.end_statement();
     Ran { end, notes }
 }

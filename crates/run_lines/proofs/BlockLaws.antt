@@ -1,17 +1,24 @@
 -- Blocks, one after another.
-use Rattle.std.proofs.Common.{◌≡◌, ℕ, ◌+◌, ◌<◌, true, List, [], ◌∷◌, ◌++◌, length, map, suc, take, get_or, refl, sym, ap, ◌∙◌, subst}
+use Rattle.std.proofs.Common.{◌≡◌, ℕ, ◌+◌, ◌<◌, ◌≤◌, List, [], ◌∷◌, ◌++◌, length, take, get_or, Result, Ok, Err, sym, ap, ◌∙◌, subst, arith}
+use Rattle.std.specs.Prelude.{IfOk}
 use Rattle.std.proofs.lemmas.List.{take_more}
-use Rattle.sp_model.specs.declared.settings.Connection.{Connection}
-use Rattle.child_calls.specs.declared.stage.Stage.{Stage}
+use Rattle.sp_model.specs.Book.{Book}
+use Rattle.sp_model.specs.declared.settings.Options.{Options}
+use Rattle.desk.specs.States.{DeskState}
 use Rattle.input_lines.specs.declared.line.Line.{Line}
-use Rattle.session_core.specs.Answers.{IfSpent}
-use Rattle.session_core.specs.Lost.{lost_for, StayLost}
-use Rattle.session_core.proofs.StageLaws.{lost_stays}
-use Rattle.session_core.specs.declared.answer.Answer.{Answer}
-use Rattle.session_core.specs.declared.answer.AnswerEnd.{AnswerEnd}
-use Rattle.session_core.specs.declared.answer.AnswerEnd.TheVariants as end
-use Rattle.run_lines.specs.Blocks.{IsBlockSo, AreBlocksSo, AllSpent}
+use Rattle.input_lines.specs.declared.line.Line.TheVariants as line
+use Rattle.statement_words.proofs.Stops.{gone_later}
+use Rattle.statement_words.specs.Advances.{AreTrue}
+use Rattle.statement_words.specs.Runs.{IsGone, IsLater}
+use Rattle.statement_run.specs.Answers.{IfSpent}
+use Rattle.statement_run.specs.declared.answer.Answer.{Answer}
+use Rattle.statement_run.specs.declared.answer.AnswerEnd.{AnswerEnd}
+use Rattle.statement_run.specs.declared.answer.AnswerEnd.TheVariants as end
+use Rattle.run_lines.specs.Blocks.{IsBlockSo, AreBlocksSo, AreTrulyNoted, BeginInTurn, AllSpent}
 use Rattle.run_lines.specs.declared.block.Block.{Block}
+
+pub none_true : (book : Book) (options : Options) (began : ℕ) → AreTrue book options began []
+none_true book options began k n at = absurd (cc)
 
 one_more : (P : List ℕ → Answer → Type 0) (ls : List Line) (bs : List Block) (l : Line) (b : Block) → AreBlocksSo P ls bs → IsBlockSo P l b → AreBlocksSo P (ls ++ l ∷ []) (bs ++ b ∷ [])
 one_more P [] [] l b h one = (one, tt)
@@ -25,11 +32,44 @@ blocks_more P lines i l bs b within is h one =
     subst (λ (ls : List Line). AreBlocksSo P ls (bs ++ b ∷ [])) (sym (take_more lines i l within ∙ ap (λ x. take i lines ++ x ∷ []) (sym is)))
     (one_more P (take i lines) bs l b h one)
 
+pub noted_more : (book : Book) (options : Options) (bs : List Block) (b : Block) → AreTrulyNoted book options bs → AreTrue book options b.answer.began b.answer.notes → AreTrulyNoted book options (bs ++ b ∷ [])
+noted_more book options [] b h one = (one, tt)
+noted_more book options (c ∷ cs) b h one = (h.0, noted_more book options cs b h.1 one)
+
+-- ---- ticks
+
+sooner : (before from until : ℕ) (ls : List Line) (bs : List Block) → before ≤ from → BeginInTurn from until ls bs → BeginInTurn before until ls bs
+sooner before from until [] [] le h = omega arith
+sooner before from until [] (b ∷ bs) le h = absurd h
+sooner before from until (line.BadForm ∷ ls) (b ∷ bs) le h = sooner before from until ls bs le h
+sooner before from until (line.Statement session text ∷ ls) (b ∷ bs) le h = (omega (arith, h.0), h.1)
+sooner before from until (line.ClearCache session ∷ ls) (b ∷ bs) le h = (omega (arith, h.0), h.1)
+sooner before from until (line.BadForm ∷ ls) [] le h = absurd h
+sooner before from until (line.Statement session text ∷ ls) [] le h = absurd h
+sooner before from until (line.ClearCache session ∷ ls) [] le h = absurd h
+
+turn_more : (from between until : ℕ) (ls : List Line) (bs : List Block) (l : Line) (b : Block) → BeginInTurn from between ls bs → BeginInTurn between until (l ∷ []) (b ∷ [])
+    → BeginInTurn from until (ls ++ l ∷ []) (bs ++ b ∷ [])
+turn_more from between until [] [] l b h one = sooner from between until (l ∷ []) (b ∷ []) h one
+turn_more from between until [] (c ∷ cs) l b h one = absurd h
+turn_more from between until (line.BadForm ∷ ls) (c ∷ cs) l b h one = turn_more from between until ls cs l b h one
+turn_more from between until (line.Statement session text ∷ ls) (c ∷ cs) l b h one = (h.0, turn_more c.answer.began between until ls cs l b h.1 one)
+turn_more from between until (line.ClearCache session ∷ ls) (c ∷ cs) l b h one = (h.0, turn_more c.answer.began between until ls cs l b h.1 one)
+turn_more from between until (line.BadForm ∷ ls) [] l b h one = absurd h
+turn_more from between until (line.Statement session text ∷ ls) [] l b h one = absurd h
+turn_more from between until (line.ClearCache session ∷ ls) [] l b h one = absurd h
+
+pub turns_more : (from between until : ℕ) (lines : List Line) (i : ℕ) (l : Line) (bs : List Block) (b : Block) → i < length lines → l ≡ get_or lines i l
+    → BeginInTurn from between (take i lines) bs → BeginInTurn between until (l ∷ []) (b ∷ []) → BeginInTurn from until (take (i + 1) lines) (bs ++ b ∷ [])
+turns_more from between until lines i l bs b within is h one =
+    subst (λ (ls : List Line). BeginInTurn from until ls (bs ++ b ∷ [])) (sym (take_more lines i l within ∙ ap (λ x. take i lines ++ x ∷ []) (sym is)))
+    (turn_more from between until (take i lines) bs l b h one)
+
 pub spent_more : (P : List ℕ → ℕ → Type 0) (bs : List Block) (b : Block) → AllSpent P bs → IfSpent b.answer.end P → AllSpent P (bs ++ b ∷ [])
 spent_more P [] b h one = (one, tt)
 spent_more P (c ∷ cs) b h one = (h.0, spent_more P cs b h.1 one)
 
-pub end_maps : (P Q : List ℕ → ℕ → Type 0) (e : AnswerEnd) → ((name : List ℕ) (losses : ℕ) → P name losses → Q name losses) → IfSpent e P → IfSpent e Q
+end_maps : (P Q : List ℕ → ℕ → Type 0) (e : AnswerEnd) → ((name : List ℕ) (losses : ℕ) → P name losses → Q name losses) → IfSpent e P → IfSpent e Q
 end_maps P Q (end.RestartsSpent name losses) f h = f name losses h
 end_maps P Q (end.Rows rows) f h = tt
 end_maps P Q (end.Refused x) f h = tt
@@ -40,14 +80,10 @@ pub spent_maps : (P Q : List ℕ → ℕ → Type 0) (bs : List Block) → ((nam
 spent_maps P Q [] f h = tt
 spent_maps P Q (b ∷ bs) f h = (end_maps P Q b.answer.end f h.0, spent_maps P Q bs f h.1)
 
--- what was lost stays lost
-pub spent_stays : (cs : List Connection) (before after : List Stage) (bs : List Block) → StayLost before after → length before ≡ length after
-    → AllSpent (λ c losses. (losses ≡ 1) × (lost_for cs before c ≡ true)) bs → AllSpent (λ c losses. (losses ≡ 1) × (lost_for cs after c ≡ true)) bs
-spent_stays cs before after bs stay same h = spent_maps _ _ bs (λ name losses l. (l.0, lost_stays cs before after name stay same l.1)) h
+-- what is gone stays gone
+pub spent_stays : (before after : DeskState) (bs : List Block) → IsLater before after → AllSpent (IsGone before) bs → AllSpent (IsGone after) bs
+spent_stays before after bs later h = spent_maps (IsGone before) (IsGone after) bs (λ name losses g. gone_later before after name losses later g) h
 
-length_of : {K X : Type 0} (f : K → X) (xs : List K) → length (map f xs) ≡ length xs
-length_of f [] = refl
-length_of f (x ∷ xs) = ap suc (length_of f xs)
-
-pub same_lengths : {K X : Type 0} (f : K → X) (before after : List K) → length after ≡ length before → length (map f before) ≡ length (map f after)
-same_lengths f before after same = length_of f before ∙ sym same ∙ sym (length_of f after)
+pub ok_maps : {E : Type 0} (r : Result (List Block) E) (P Q : List Block → Type 0) → ((bs : List Block) → P bs → Q bs) → IfOk r P → IfOk r Q
+ok_maps (Ok bs) P Q f h = f bs h
+ok_maps (Err e) P Q f h = tt

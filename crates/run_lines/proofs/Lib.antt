@@ -1,3 +1,3 @@
-mod BlockLaws
-mod LostLaws
+pub mod BlockLaws
 mod ChildLaws
+mod LostLaws

@@ -1,75 +1,46 @@
--- The child of a connection that was lost, among the children that came back.
-use Rattle.std.proofs.Common.{◌≡◌, ℕ, suc, ◌+◌, ◌≤◌, true, List, [], ◌∷◌, map, None, Result, Ok, Err, inl, inr, refl, sym, ap, ◌∙◌, subst}
-use Rattle.std.specs.Prelude.{bytes_eq, IfOk}
+-- The lost child of a connection that is gone.
+use Rattle.std.proofs.Common.{◌≡◌, ◌≤◌, ◌+◌, ℕ, Bool, List, map, Option, Some, None, refl, sym, subst}
+use Rattle.std.specs.Prelude.{IsTrue, IsSomeAnd, slice_get}
 use Rattle.sp_model.specs.Book.{Book}
+use Rattle.sp_model.specs.Sayable.{KeepsForms}
 use Rattle.sp_model.specs.declared.settings.Connection.{Connection}
 use Rattle.sp_model.specs.declared.settings.Settings.{Settings}
-use Rattle.child_calls.specs.Kids.{is_lost}
-use Rattle.child_calls.specs.declared.stage.Stage.{Stage}
-use Rattle.sql_bind.proofs.Declared.{split}
-use Rattle.sql_bind.specs.Known.{Known, nothing_declared, declared_for, declaration_of}
-use Rattle.session_core.specs.Answers.{IsTold}
-use Rattle.session_core.specs.Lost.{lost_for}
-use Rattle.run_lines.specs.Blocks.{HasLostChild}
+use Rattle.desk.specs.States.{DeskState}
+use Rattle.plain_desk.specs.Lost.{HasLost, IsGone as IsSlotGone, AreGone}
+use Rattle.plain_desk.specs.declared.slot_parts.SlotParts.{SlotParts}
+use Rattle.statement_words.specs.Runs.{plain_names, IsGone}
+use Rattle.run_lines.specs.Blocks.{AllSpent, HasLostChild, with_child}
 use Rattle.run_lines.specs.declared.block.Block.{Block}
+use Rattle.run_lines.proofs.BlockLaws.{spent_maps}
+use Rattle.run_lines.proofs.ChildLaws.{names, named_at, mapped_at}
 
-module _ {K Kid : Type 0} (child : K → Kid) (stage : K → Stage) (faulted gives : Kid → ℕ) (Honest : Type 0) where
-  abbrev AreCounted : Type 0
-  AreCounted = (k : K) → is_lost (stage k) ≡ true → 1 ≤ faulted (child k) + gives (child k)
+module _ {X Kid : Type 0} (tells : Bool) (book : Book) (faulted gives : Kid → ℕ) where
+  abbrev Lost : List Connection → List (SlotParts X Kid) → List ℕ → ℕ → Type 0
+  Lost connections slots name losses = HasLostChild faulted gives (IsTrue tells × KeepsForms book) 0 (with_child connections) (map (λ (s : SlotParts X Kid). s.link.child) slots) name losses
 
-  abbrev AreFaults : Type 0
-  AreFaults = (k : K) → Honest → is_lost (stage k) ≡ true → 1 ≤ faulted (child k)
+  of_slot : (connections : List Connection) (slots : List (SlotParts X Kid)) (name : List ℕ) (number losses : ℕ) (o : Option (SlotParts X Kid)) → slice_get slots number ≡ o
+      → slice_get (names (with_child connections)) number ≡ Some name → losses ≡ 1 → IsSomeAnd o (IsSlotGone (HasLost tells book faulted gives)) → Lost connections slots name losses
+  of_slot connections slots name number losses None at of_name one gone = absurd gone
+  of_slot connections slots name number losses (Some slot) at of_name one gone =
+      let c = named_at (with_child connections) number name of_name in
+      record {
+        place = number;
+        connection = c.0;
+        child = slot.link.child;
+        named = (c.1, c.2);
+        beside = mapped_at (λ (s : SlotParts X Kid). s.link.child) slots number slot at;
+        spent = one;
+        counted = subst (λ n. n ≤ faulted slot.link.child + gives slot.link.child) (sym one) gone.1.0;
+        by_faults = λ honest. subst (λ n. n ≤ faulted slot.link.child) (sym one) (gone.1.1 honest.0 honest.1);
+      }
 
-  abbrev Lost : List Connection → List K → List ℕ → ℕ → Type 0
-  Lost cs ks name losses = HasLostChild faulted gives Honest 0 cs (map child ks) name losses
+  was_lost : (s : DeskState) (slots : List (SlotParts X Kid)) → AreGone (HasLost tells book faulted gives) slots s.gone → (name : List ℕ) (losses : ℕ) → IsGone s name losses → Lost s.settings.connections slots name losses
+  unfolding plain_names
+  was_lost s slots gone name losses is =
+      let facts = gone is.number losses is.known in
+      of_slot s.settings.connections slots name is.number losses (slice_get slots is.number) refl is.of_name facts.0 facts.1
 
-  here : AreCounted → AreFaults → (c : Connection) (cs : List Connection) (k : K) (ks : List K) (name : List ℕ) (losses : ℕ) → bytes_eq c.name name ≡ true → losses ≡ 1
-      → is_lost (stage k) ≡ true → Lost (c ∷ cs) (k ∷ ks) name losses
-  here counted faults c cs k ks name losses named one lost = record {
-    place = 0;
-    connection = c;
-    child = child k;
-    named = (refl, named);
-    beside = refl;
-    spent = one;
-    counted = subst (λ n. n ≤ faulted (child k) + gives (child k)) (sym one) (counted k lost);
-    by_faults = λ honest. subst (λ n. n ≤ faulted (child k)) (sym one) (faults k honest lost);
-  }
-
-  later : (c : Connection) (cs : List Connection) (k : K) (ks : List K) (name : List ℕ) (losses : ℕ) → Lost cs ks name losses → Lost (c ∷ cs) (k ∷ ks) name losses
-  later c cs k ks name losses h = record {
-    place = suc h.place;
-    connection = h.connection;
-    child = h.child;
-    named = h.named;
-    beside = h.beside;
-    spent = h.spent;
-    counted = h.counted;
-    by_faults = h.by_faults;
-  }
-
-  pub was_lost : AreCounted → AreFaults → (cs : List Connection) (ks : List K) (name : List ℕ) (losses : ℕ) → losses ≡ 1 → lost_for cs (map stage ks) name ≡ true
-      → Lost cs ks name losses
-  was_lost counted faults [] ks name losses one h = absurd (cc)
-  was_lost counted faults (c ∷ cs) [] name losses one h = absurd (cc)
-  was_lost counted faults (c ∷ cs) (k ∷ ks) name losses one h = elim (split (bytes_eq c.name name)) [
-    | inl is ↦ here counted faults c cs k ks name losses is one (rw is at h)
-    | inr apart ↦ later c cs k ks name losses (was_lost counted faults cs ks name losses one (rw apart at h))
-  ]
-
-nowhere : (cs : List Connection) (name : List ℕ) → declared_for cs (map (λ _. None) cs) name ≡ None
-nowhere [] name = refl
-nowhere (c ∷ cs) name = elim (split (bytes_eq c.name name)) [
-  | inl is ↦ rw is refl
-  | inr apart ↦ rw apart (nowhere cs name)
-]
-
--- nothing declared is told
-pub nothing_told : (book : Book) (settings : Settings) (known : Known) → known ≡ nothing_declared settings → IsTold book known
-nothing_told book settings known same name d found =
-    let none : declaration_of known name ≡ None = ap (λ (k : Known). declaration_of k name) same ∙ nowhere settings.connections name in
-    absurd (cc)
-
-pub ok_maps : {E : Type 0} (r : Result (List Block) E) (P Q : List Block → Type 0) → ((bs : List Block) → P bs → Q bs) → IfOk r P → IfOk r Q
-ok_maps (Ok bs) P Q f h = f bs h
-ok_maps (Err e) P Q f h = tt
+  pub all_lost : (s : DeskState) (settings : Settings) (slots : List (SlotParts X Kid)) (blocks : List Block) → s.settings ≡ settings → AreGone (HasLost tells book faulted gives) slots s.gone
+      → AllSpent (IsGone s) blocks → AllSpent (Lost settings.connections slots) blocks
+  all_lost s settings slots blocks same gone spent =
+      subst (λ (x : Settings). AllSpent (Lost x.connections slots) blocks) same (spent_maps (IsGone s) (Lost s.settings.connections slots) blocks (was_lost s slots gone) spent)

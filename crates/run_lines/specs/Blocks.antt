@@ -1,13 +1,15 @@
 -- The answers to the lines of an input.
-use Rattle.std.specs.Prelude.{◌≡◌, ℕ, ◌+◌, ◌≤◌, true, List, [], ◌∷◌, ◌++◌, length, map, take, bytes_eq, slice_get, Some}
+use Rattle.std.specs.Prelude.{◌≡◌, ℕ, ◌+◌, ◌≤◌, not, List, [], ◌∷◌, ◌++◌, length, map, filter, take, slice_get, Some}
 use Rattle.sp_model.specs.Book.{Book}
 use Rattle.sp_model.specs.declared.settings.Connection.{Connection}
+use Rattle.sp_model.specs.declared.settings.Options.{Options}
 use Rattle.sp_model.specs.declared.settings.Settings.{Settings}
 use Rattle.input_lines.specs.declared.line.Line.{Line}
 use Rattle.input_lines.specs.declared.line.Line.TheVariants.{Statement, ClearCache, BadForm}
-use Rattle.session_core.specs.Answers.{refused, IsAnswer, IsByText, IfSpent}
-use Rattle.session_core.specs.declared.answer.Answer.{Answer}
-use Rattle.session_core.specs.declared.answer.BlockFault.TheVariants as fault
+use Rattle.statement_words.specs.Advances.{AreTrue}
+use Rattle.statement_run.specs.Answers.{refused, IsAnswer, IsByText, IfSpent}
+use Rattle.statement_run.specs.declared.answer.Answer.{Answer}
+use Rattle.statement_run.specs.declared.answer.BlockFault.TheVariants as fault
 use Rattle.run_lines.specs.declared.block.Block.{Block}
 
 -- a block answers a line: a statement's so; the cache is cleared by a later version
@@ -30,19 +32,38 @@ AreAnswers book settings lines blocks = AreBlocksSo (IsAnswer book settings) lin
 abbrev pub AreByText : Settings → List Line → List Block → Type 0
 AreByText settings lines blocks = AreBlocksSo (IsByText settings) lines blocks
 
+-- the notes of each block are true
+abbrev pub AreTrulyNoted : Book → Options → List Block → Type 0
+AreTrulyNoted book options [] = Unit {0}
+AreTrulyNoted book options (b ∷ bs) = AreTrue book options b.answer.began b.answer.notes × AreTrulyNoted book options bs
+
+-- each answer begins no earlier than the one before, between two ticks; a line of bad form is answered at none
+abbrev pub BeginInTurn : ℕ → ℕ → List Line → List Block → Type 0
+BeginInTurn from until [] [] = from ≤ until
+BeginInTurn from until (BadForm ∷ ls) (b ∷ bs) = BeginInTurn from until ls bs
+BeginInTurn from until (Statement session text ∷ ls) (b ∷ bs) = (from ≤ b.answer.began) × BeginInTurn b.answer.began until ls bs
+BeginInTurn from until (ClearCache session ∷ ls) (b ∷ bs) = (from ≤ b.answer.began) × BeginInTurn b.answer.began until ls bs
+BeginInTurn from until _ _ = ⊥
+
 -- each spent restart budget is of a connection and a number of losses with this property
 abbrev pub AllSpent : (List ℕ → ℕ → Type 0) → List Block → Type 0
 AllSpent P [] = Unit {0}
 AllSpent P (b ∷ bs) = IfSpent b.answer.end P × AllSpent P bs
 
--- the child of the first connection of a name was lost once more than the restart budget; its losses are counted, by its faults and the lines
+-- ---- children
+
+-- the connections that have a child: those that are no aggregator
+abbrev pub with_child : List Connection → List Connection
+with_child connections = filter (λ c. not c.aggregator) connections
+
+-- the child of the connection of a name was lost once more than the restart budget; its losses are counted, by its faults and the lines
 -- that it gave, and where the children tell and are honest by its faults alone
 pub record HasLostChild {Kid : Type 0} (faulted gives : Kid → ℕ) (IsToldHonestly : Type 0) (budget : ℕ) (connections : List Connection) (children : List Kid)
     (name : List ℕ) (losses : ℕ) : Type 0 where
   pub place : ℕ
   pub connection : Connection
   pub child : Kid
-  pub named : (slice_get connections place ≡ Some connection) × (bytes_eq connection.name name ≡ true)
+  pub named : (slice_get connections place ≡ Some connection) × (connection.name ≡ name)
   pub beside : slice_get children place ≡ Some child
   pub spent : losses ≡ budget + 1
   pub counted : losses ≤ faulted child + gives child

@@ -1,12 +1,14 @@
-//! The lines of an input, answered one after another over the children of the settings' connections.
+//! The lines of an input, answered one after another over the children of the settings' plain connections.
 //!
-//! `run_lines` makes the children, answers each line by `session_core`, and gives the children back; a `Block` is the answer to a line. What
-//! the blocks are stands in `specs/Blocks.antt`.
+//! `answer_lines` answers lines at any desk, `run_lines` at a `PlainDesk` over children that it makes and gives back; a `Block` is the
+//! answer to a line. What the blocks are stands in `specs/Blocks.antt`.
 #![tactic(auto)]
 
 mod block;
 mod children;
 mod lines;
+mod run;
 
 pub use block::Block;
-pub use lines::run_lines;
+pub use lines::answer_lines;
+pub use run::run_lines;

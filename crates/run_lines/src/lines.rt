@@ -1,24 +1,25 @@
 // Lines, one after another.
 
-ghost use Rattle.std.specs.Prelude.{◌≡◌, ◌+◌, ◌<◌, ◌≤◌, ◌^◌, ◌++◌, [], ◌∷◌, length, map, true, List, IsTrue, IfOk};
-ghost use Rattle.child_calls.specs.Asking.{IsHonest};
-ghost use Rattle.session_core.specs.Answers.{refused, IsAnswer, IsByText, IfSpent, IsTold};
-ghost use Rattle.session_core.specs.Lost.{lost_for, StayLost};
-ghost use Rattle.session_core.specs.declared.answer.BlockFault.TheVariants as fault;
-ghost use Rattle.run_lines.specs.Blocks.{IsBlockSo, AreBlocksSo, AreAnswers, AreByText, AllSpent, CameBack, AreOver};
+ghost use Rattle.std.specs.Prelude.{◌≡◌, ◌≤◌, [], ◌∷◌, true, IsTrue, IfOk};
+ghost use Rattle.declaration_run.specs.Declaring.{IsTold, AreRead};
+ghost use Rattle.scan_run.specs.Asked.{SubsetKeysFilter};
+ghost use Rattle.statement_words.specs.Advances.{AreTrue, IsRun};
+ghost use Rattle.statement_words.specs.Runs.{IsGone, IsLater};
+ghost use Rattle.statement_run.specs.Answers.{refused, IsAnswer, IsByText, IfSpent};
+ghost use Rattle.statement_run.specs.Settings.{members_are_plain};
+ghost use Rattle.statement_run.specs.declared.answer.BlockFault.TheVariants as fault;
+ghost use Rattle.run_lines.specs.Blocks.{IsBlockSo, AreAnswers, AreByText, AreTrulyNoted, BeginInTurn, AllSpent};
 
 use crate::block::Block;
-use crate::children::{give_back, make_all};
-use child_calls::Kid;
+use desk::Desk;
 use input_lines::Line;
-use session_core::{Answer, AnswerEnd, BlockFault, run_statement};
-use sp_model::Settings;
-use sp_outside::{Child, Clock, ClockPass, Nursery};
 use sp_value::Memory;
 use sp_world::World;
 use sql_bind::Catalog;
 use sqlite_items::Items;
+use statement_run::{Answer, AnswerEnd, BlockFault, run_statement};
 use std::alloc::Global;
+use std::sync::Wait;
 
 fn refused(alloc: Global, began: u64, fault: BlockFault) -> Answer
     ensures { result ≡ refused began fault }
@@ -33,34 +34,35 @@ fn refused(alloc: Global, began: u64, fault: BlockFault) -> Answer
 }
 
 /// Answers one line.
-fn run_line<W: World, C: Child<W> + Drop, K: Clock>(
+#[tactic(auto, using(crate::proofs::BlockLaws::none_true, statement_words::proofs::Stops::later_refl, statement_words::proofs::Stops::later_tick))]
+fn answer_line<R: Wait, W: World, D: Desk<W>>(
+    rt: &R,
     alloc: Global,
-    kids: &mut Vec<Kid<W, C>>,
-    clock: &K,
-    pass: &mut ClockPass,
+    desk: &mut D,
     catalog: &mut Catalog,
     line: &Line,
 ) -> Block
-    requires small { pass.old.latest ≤ 2 ^ 62 }
-    requires beside { length kids.old.items ≡ length catalog.old.settings.connections }
+    requires run { IsRun catalog.old.settings (D.state desk.old) }
+    requires served { members_are_plain catalog.old.settings ≡ true }
     requires told { IsTrue W.tells → IsTold W.book catalog.old }
-    ensures told { IsTrue W.tells → IsBlockSo (IsAnswer W.book catalog.old.settings) line.now result }
-    ensures text { IsBlockSo (IsByText catalog.old.settings) line.now result }
+    requires read { AreRead catalog.old }
     ensures settings { catalog.new.settings ≡ catalog.old.settings }
-    ensures catalog { IsTrue W.tells → IsTold W.book catalog.new }
-    ensures lost { IfSpent result.answer.end (λ c losses. (losses ≡ 1) × (lost_for catalog.new.settings.connections (map (λ k. k.stage) kids.new.items) c ≡ true)) }
-    ensures stay { StayLost (map (λ k. k.stage) kids.old.items) (map (λ k. k.stage) kids.new.items) }
-    ensures count { length kids.new.items ≡ length kids.old.items }
-    ensures connections { map (λ k. C.connection k.child) kids.new.items ≡ map (λ k. C.connection k.child) kids.old.items }
-    ensures still { pass.new.latest ≤ 2 ^ 62 }
+    ensures told { IsTrue W.tells → IsTold W.book catalog.new }
+    ensures read { AreRead catalog.new }
+    ensures answer { IsTrue W.tells → SubsetKeysFilter W.book → IsBlockSo (IsAnswer W.book catalog.old.settings) line.now result }
+    ensures text { IsBlockSo (IsByText catalog.old.settings) line.now result }
+    ensures notes { IsTrue W.tells → AreTrue W.book catalog.old.settings.options result.answer.began result.answer.notes }
+    ensures spent { IfSpent result.answer.end (IsGone (D.state desk.new)) }
+    ensures turn { BeginInTurn (D.state desk.old).tick (D.state desk.new).tick (line.now ∷ []) (result ∷ []) }
+    ensures state { IsLater (D.state desk.old) (D.state desk.new) }
 {
     match line {
         Line::Statement { session, text } => Block {
             session: *session,
-            answer: run_statement::<W, C, K>(alloc, kids, clock, pass, catalog, text),
+            answer: run_statement::<R, W, D>(rt, alloc, desk, catalog, text),
         },
         Line::ClearCache { session } => {
-            let began = clock.now(pass);
+            let began = desk.now();
             Block {
                 session: *session,
                 answer: refused(alloc, began, BlockFault::NotYet),
@@ -73,60 +75,31 @@ fn run_line<W: World, C: Child<W> + Drop, K: Clock>(
     }
 }
 
-/// Answers the lines one after another.
-fn run_all<W: World, C: Child<W> + Drop, K: Clock>(
+/// Answers lines one after another at a desk of the catalog's settings. What connections declare is kept from line to line.
+pub fn answer_lines<R: Wait, W: World, D: Desk<W>>(
+    rt: &R,
     alloc: Global,
-    kids: &mut Vec<Kid<W, C>>,
-    clock: &K,
+    desk: &mut D,
     catalog: &mut Catalog,
     lines: &[Line],
 ) -> Result<Items<Block>, Memory>
-    requires beside { length kids.old.items ≡ length catalog.old.settings.connections }
+    requires run { IsRun catalog.old.settings (D.state desk.old) }
+    requires served { members_are_plain catalog.old.settings ≡ true }
     requires told { IsTrue W.tells → IsTold W.book catalog.old }
-    ensures told { IsTrue W.tells → IfOk result (AreAnswers W.book catalog.old.settings lines.now) }
+    requires read { AreRead catalog.old }
+    ensures told { IsTrue W.tells → SubsetKeysFilter W.book → IfOk result (AreAnswers W.book catalog.old.settings lines.now) }
     ensures text { IfOk result (AreByText catalog.old.settings lines.now) }
-    ensures lost { IfOk result (AllSpent (λ c losses. (losses ≡ 1) × (lost_for catalog.old.settings.connections (map (λ k. k.stage) kids.new.items) c ≡ true))) }
-    ensures count { length kids.new.items ≡ length kids.old.items }
-    ensures connections { map (λ k. C.connection k.child) kids.new.items ≡ map (λ k. C.connection k.child) kids.old.items }
+    ensures notes { IsTrue W.tells → IfOk result (AreTrulyNoted W.book catalog.old.settings.options) }
+    ensures spent { IfOk result (AllSpent (IsGone (D.state desk.new))) }
+    ensures turns { IfOk result (BeginInTurn (D.state desk.old).tick (D.state desk.new).tick lines.now) }
+    ensures state { IsLater (D.state desk.old) (D.state desk.new) }
 {
-    let mut pass = ClockPass {
-        readings: 0,
-        latest: 0,
-    };
     let mut blocks = Items::new(alloc);
     for line in lines {
-        let block = run_line::<W, C, K>(alloc, kids, clock, &mut pass, catalog, line);
+        let block = answer_line::<R, W, D>(rt, alloc, desk, catalog, line);
         let Ok(()) = blocks.push(block) else {
             return Err(Memory);
         };
     }
     Ok(blocks)
-}
-
-/// Answers the lines of an input, in their order, over children of the settings' connections, which all go back to the nursery before
-/// the call returns, in the order of the settings.
-pub fn run_lines<W: World, M: Nursery<W>, K: Clock>(
-    alloc: Global,
-    settings: &Settings,
-    lines: &[Line],
-    nursery: &mut M,
-    clock: &K,
-) -> Result<Items<Block>, Memory>
-    requires all_back { length (M.back nursery.old) ≡ M.made nursery.old }
-    ensures told { IsTrue W.tells → IfOk result (AreAnswers W.book settings.now lines.now) }
-    ensures text { IfOk result (AreByText settings.now lines.now) }
-    ensures over { IfOk result (AreOver M.Kid.faulted M.Kid.gives M.Kid.connection (IsTrue W.tells × IsHonest W.book) 0 settings.now.connections (M.back nursery.old) (M.back nursery.new)) }
-    ensures children { (children : List M.Kid) × CameBack M.Kid.connection settings.now.connections (M.back nursery.old) (M.back nursery.new) children }
-    ensures back { length (M.back nursery.new) ≡ M.made nursery.new }
-{
-    let mut catalog = Catalog::of(alloc, settings)?;
-    let mut kids = Vec::new(alloc);
-    let connections = settings.connections.as_slice();
-    let Ok(()) = make_all::<W, M>(alloc, connections, nursery, &mut kids) else {
-        give_back::<W, M>(nursery, kids);
-        return Err(Memory);
-    };
-    let blocks = run_all::<W, M::Kid, K>(alloc, &mut kids, clock, &mut catalog, lines);
-    give_back::<W, M>(nursery, kids);
-    blocks
 }

@@ -103,6 +103,12 @@ list_fits table d request OfList e other sent met =
 list_fits table d request Parents e other sent met =
     sent_and_met d request (subst (λ (l : Option ListDecl). are_sent (keys_of_list l) request ≡ true) e sent) (subst (λ (l : Option ListDecl). meets_list l request.conditions ≡ true) e met)
 
+-- a scan of a list that may be made
+pub asked_of_list : (table : TableDecl) (d : ListDecl) (request : ScanRequest) → table.list ≡ Some d → is_get request.access ≡ false → IsScanOf table request → is_asked_of_list table d request ≡ true
+asked_of_list table d request e other asked =
+    let law = list_is_lawful table d request.conditions request.access e other (left _ _ (left _ _ asked.lawful)) in
+    both _ _ (both _ _ law.0 law.1) (subst (λ (l : Option ListDecl). AllOnlyFilter table request.subset l) e asked.subset)
+
 -- ---- the law of kept scans
 
 module _ (table : TableDecl) (kept request : ScanRequest) (made : IsRequestOf table kept) (met : meets_keys table kept ≡ true) (asked : IsScanOf table request) (same : kept.access ≡ request.access)
@@ -121,9 +127,7 @@ module _ (table : TableDecl) (kept request : ScanRequest) (made : IsRequestOf ta
     only = subst (λ (l : Option ListDecl). AllOnlyFilter table request.subset l) e asked.subset
 
     request_asked : is_asked_of_list table d request ≡ true
-    request_asked =
-        let law = list_is_lawful table d request.conditions request.access e other lawful in
-        both _ _ (both _ _ law.0 law.1) only
+    request_asked = asked_of_list table d request e other asked
 
     kept_asked : is_asked_of_list table d kept ≡ true
     kept_asked =

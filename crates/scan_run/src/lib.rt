@@ -10,7 +10,9 @@ mod deciding;
 mod feeding;
 mod fresh;
 mod kept;
+mod laws;
 mod posting;
 mod scan;
 
+pub use laws::scans_of_lists_are_asked;
 pub use scan::run_scan;

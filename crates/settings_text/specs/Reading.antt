@@ -38,10 +38,6 @@ abbrev pub first_limiter : List WrittenLimiter → Option Entry
 first_limiter [] = None
 first_limiter (l ∷ ls) = Some (Entry.Limiter 1)
 
--- aggregators and limiters are read, and refused until they can be served
-abbrev pub not_yet : Written → Option Entry
-not_yet w = option_or (first_connection (λ c. c.aggregator) w) (first_limiter w.limiters)
-
 -- a second connection, or a second limiter, of one name
 abbrev pub duplicate : Written → Option Entry
 duplicate w = option_or
@@ -85,9 +81,9 @@ settings_of w =
     (unless MembersDiffer (first_connection (members_differ w.connections) w)
     (within_limits w)))
 
--- the same, where no entry is of a kind that can't be served yet
+-- the same without limiters, which are read, and refused until they can be served
 abbrev pub served_settings_of : Written → Result Settings SettingsFault
-served_settings_of w = unless NotYet (not_yet w) (settings_of w)
+served_settings_of w = unless NotYet (first_limiter w.limiters) (settings_of w)
 
 abbrev pub of_written : (Written → Result Settings SettingsFault) → Result Written SettingsFault → Result Settings SettingsFault
 of_written settings (Err fault) = Err fault

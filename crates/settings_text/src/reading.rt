@@ -7,7 +7,7 @@ use crate::aggregators::with_members;
 use crate::entries::written_of;
 use crate::fault::{Entry, SettingsFault};
 use crate::limits::{MOST_ENTRIES, limiters_within, options_within};
-use crate::refusals::{Differs, IsEmpty, IsLong, duplicate, first_connection, not_yet};
+use crate::refusals::{Differs, IsEmpty, IsLong, duplicate, first_connection, first_limiter};
 use crate::written::Written;
 use sp_model::{Connection, Settings};
 use sqlite_items::Items;
@@ -27,7 +27,7 @@ pub fn read_settings(alloc: Global, bytes: &[u8]) -> Result<Settings, SettingsFa
     Ok(settings)
 }
 
-/// The settings that a file's bytes are, also those with aggregators and limiters, which nothing serves yet:
+/// The settings that a file's bytes are, also those with limiters, which nothing serves yet:
 /// `read_settings` without its refusal `NotYet`.
 pub fn read_all_settings(alloc: Global, bytes: &[u8]) -> Result<Settings, SettingsFault>
     ensures { IsUnlessMemory result (read_all_settings bytes.now) }
@@ -54,11 +54,11 @@ fn document_of(alloc: Global, bytes: &[u8]) -> Result<Value, SettingsFault>
     }
 }
 
-/// The settings, unless an entry can be read but not yet served.
+/// The settings, unless there is a limiter, which can be read but not yet served.
 fn served_settings_of(alloc: Global, written: &Written) -> Result<Settings, SettingsFault>
     ensures { IsUnlessMemory result (served_settings_of written.now) }
 {
-    if let Some(at) = not_yet(alloc, written)? {
+    if let Some(at) = first_limiter(written.limiters.as_slice()) {
         return Err(SettingsFault::NotYet { at });
     }
     let settings = settings_of(alloc, written)?;

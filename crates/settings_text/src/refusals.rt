@@ -1,5 +1,5 @@
-ghost use Rattle.std.specs.Prelude.{◌≡◌, [], map, true, option_map, IfOk};
-ghost use Rattle.settings_text.specs.Reading.{first_where, first_repeat, first_limiter, not_yet, duplicate};
+ghost use Rattle.std.specs.Prelude.{◌≡◌, [], map, option_map, IfOk};
+ghost use Rattle.settings_text.specs.Reading.{first_where, first_repeat, first_limiter, duplicate};
 ghost use Rattle.settings_text.specs.declared.fault.Entry.TheVariants as place;
 
 use crate::aggregators;
@@ -21,18 +21,6 @@ pub trait Rule {
 
     fn refuses(&self, alloc: Global, connection: &Connection) -> Result<bool, Memory>
         ensures { IfOk result (λ b. b ≡ refuses self.now connection.now) };
-}
-
-/// Aggregators are read, and can't be served yet.
-#[derive(Drop)]
-struct IsAggregator;
-
-impl Rule for IsAggregator {
-    ghost refuses = { λ _ c. c.aggregator };
-
-    fn refuses(&self, _alloc: Global, connection: &Connection) -> Result<bool, Memory> {
-        Ok(connection.aggregator)
-    }
 }
 
 /// An aggregator has a member among all connections.
@@ -100,22 +88,13 @@ pub fn first_connection<R: Rule>(
     Ok(None)
 }
 
-fn first_limiter(limiters: &[WrittenLimiter]) -> Option<Entry>
+/// The place of the first limiter.
+pub fn first_limiter(limiters: &[WrittenLimiter]) -> Option<Entry>
     ensures { result ≡ first_limiter limiters.now }
 {
     match limiters {
         [] => None,
         [_, ..] => Some(Entry::Limiter(1)),
-    }
-}
-
-/// The place of the first aggregator, or else of the first limiter.
-pub fn not_yet(alloc: Global, written: &Written) -> Result<Option<Entry>, Memory>
-    ensures { IfOk result (λ o. o ≡ not_yet written.now) }
-{
-    match first_connection(alloc, &IsAggregator, written.connections.as_slice())? {
-        Some(at) => Ok(Some(at)),
-        None => Ok(first_limiter(written.limiters.as_slice())),
     }
 }
 

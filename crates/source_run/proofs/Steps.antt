@@ -61,7 +61,7 @@ lowered_made table r missing positive made = record {
 }
 
 -- a request for what is missing may be scanned
-scan_lowered : (tells : Bool) (book : Book) (connections : List Connection) (s : PlanSource) (r : ScanRequest) (missing : Option ℕ) → IsReady tells book connections s → IsMadeBy s r → is_positive missing ≡ true
+pub scan_lowered : (tells : Bool) (book : Book) (connections : List Connection) (s : PlanSource) (r : ScanRequest) (missing : Option ℕ) → IsReady tells book connections s → IsMadeBy s r → is_positive missing ≡ true
     → IsScanOf (arc_value s.table) (lowered missing r)
 scan_lowered tells book connections s r missing ready made positive =
     let same : s.subset ≡ r.subset = ready.planned.subset ∙ ap (subset_for (arc_value s.table)) (sym made.access) ∙ sym made.request.subset in

@@ -9,5 +9,5 @@ mod laws;
 mod scans;
 mod sources;
 
-pub use laws::chosen_sources_are_ready;
+pub use laws::{chosen_sources_are_ready, requests_of_lists_are_asked};
 pub use sources::join_sources;

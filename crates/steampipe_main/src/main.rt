@@ -63,7 +63,8 @@ fn main(rt: HostRuntime) -> ExitCode {
     let mut notes = WriterSink::new(rt.stderr());
     let clock = MachineClock::new(rt);
     let mut nursery = Programs::new(rt, alloc, log_folder(rt, clock.start()));
-    let status = steampipe::<Untold, _, _, _, _, _, _>(
+    let status = steampipe::<_, Untold, _, _, _, _, _, _>(
+        &rt,
         alloc,
         words.as_slice(),
         &mut input,

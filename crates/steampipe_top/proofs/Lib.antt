@@ -2,4 +2,5 @@ mod Answered
 mod Endings
 mod Explanations
 mod JsonTexts
+mod Settings
 mod Tasks

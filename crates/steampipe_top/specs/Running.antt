@@ -3,16 +3,17 @@ use Rattle.std.specs.Prelude.{◌≡◌, ◌⊎◌, ℕ, List, codes, Bool, true
 use Rattle.std.specs.List.{list_any, list_all}
 use Rattle.std.specs.Io.KnownBytes.{Appends}
 use Rattle.sp_model.specs.Book.{Book}
+use Rattle.sp_model.specs.Sayable.{KeepsForms}
 use Rattle.sp_model.specs.declared.settings.Settings.{Settings}
 use Rattle.sp_outside.specs.Causes.{Rose}
 use Rattle.sp_outside.specs.Files.{FileTold}
 use Rattle.sp_outside.specs.Writing.{GrewByPrefix}
-use Rattle.child_calls.specs.Asking.{IsHonest}
 use Rattle.input_lines.specs.Lines.{blocks_of}
-use Rattle.run_lines.specs.Blocks.{AreAnswers, AreByText, AreOver, CameBack}
+use Rattle.run_lines.specs.Blocks.{AreAnswers, AreByText, AreTrulyNoted, BeginInTurn, AreOver, CameBack, with_child}
 use Rattle.run_lines.specs.declared.block.Block.{Block}
-use Rattle.session_core.specs.declared.answer.AnswerEnd.{AnswerEnd}
-use Rattle.session_core.specs.declared.answer.AnswerEnd.TheVariants as end
+use Rattle.statement_run.specs.declared.answer.AnswerEnd.{AnswerEnd}
+use Rattle.statement_run.specs.declared.answer.AnswerEnd.TheVariants as end
+use Rattle.scan_run.specs.Asked.{SubsetKeysFilter}
 use Rattle.settings_text.specs.Reading.{read_settings}
 use Rattle.answer_text.specs.Errors.{error_text}
 use Rattle.answer_text.specs.declared.answer.ErrorLine.TheVariants as error_line
@@ -75,12 +76,13 @@ all_rows blocks = list_all (λ b. is_rows b.answer.end) blocks
 abbrev pub blocks_status : List Block → Status
 blocks_status blocks = if any_memory blocks then Memory else (if all_rows blocks then Done else Failed)
 
--- a run that answered, whose writing may have failed
-abbrev pub IfAnswered : Status → Type 0 → Type 0
-IfAnswered Done P = P
-IfAnswered Failed P = P
-IfAnswered WriteFault P = P
-IfAnswered _ P = Unit {0}
+-- a run that answered, whose writing may have failed; where memory was wanting it may have written nothing instead
+abbrev pub IfAnswered : Status → Type 0 → Type 0 → Type 0
+IfAnswered Done silent P = P
+IfAnswered Failed silent P = P
+IfAnswered WriteFault silent P = P
+IfAnswered Memory silent P = silent ⊎ P
+IfAnswered _ silent P = Unit {0}
 
 -- a run that was refused before it answered, with the line that says so
 abbrev pub IfRefused : Status → (List ℕ → Type 0) → Type 0
@@ -132,16 +134,19 @@ pub record Outside (Kid : Type 0) : Type 0 where
   pub notes : Option (List ℕ)
   pub back : List Kid
 
--- an input was answered by settings: its whole was read; the answers are the defined ones, where the children tell; the children of all connections
--- came back in their order, each spent restart budget has its lost child among them; the texts of the answers and of their notes were written
+-- an input was answered by settings: its whole was read; the answers are the defined ones, where the children tell and their subset keys only
+-- filter, and the notes are true; none began earlier than the one before; the children of all plain connections came back in their order, each
+-- spent restart budget has its lost child among them; the texts of the answers and of their notes were written
 pub record HasAnswered {Kid : Type 0} (faulted gives : Kid → ℕ) (own : Kid → List ℕ) (tells : Bool) (book : Book) (settings : Settings) (form : Form) (status : Status)
     (before after : Outside Kid) : Type 0 where
   pub input : List ℕ
   pub read : IsInput before.left after.left input
   pub blocks : List Block
-  pub defined : IsTrue tells → AreAnswers book settings (blocks_of input) blocks
+  pub defined : IsTrue tells → SubsetKeysFilter book → AreAnswers book settings (blocks_of input) blocks
+  pub noted : IsTrue tells → AreTrulyNoted book settings.options blocks
   pub text : AreByText settings (blocks_of input) blocks
-  pub over : AreOver faulted gives own (IsTrue tells × IsHonest book) 0 settings.connections before.back after.back blocks
+  pub turns : (last : ℕ) × BeginInTurn 0 last (blocks_of input) blocks
+  pub over : AreOver faulted gives own (IsTrue tells × KeepsForms book) 0 (with_child settings.connections) before.back after.back blocks
   pub written : IsWritten form status blocks before.held after.held before.notes after.notes
 
 -- the words ask for answers by a file, whose settings these are, in a form
@@ -150,10 +155,10 @@ pub record AreNamed (words : List (List ℕ)) (files : List ℕ → FileTold) (s
   pub named : Asks words file form
   pub are : AreSettings read_settings (files file) settings
 
--- no child came back; or those of the first connections of the settings that the words name, in their order
+-- no child came back; or those of the first plain connections of the settings that the words name, in their order
 abbrev pub AreReturned : {Kid : Type 0} → (Kid → List ℕ) → List (List ℕ) → (List ℕ → FileTold) → List Kid → List Kid → Type 0
 AreReturned {Kid} own words files back back_after =
-    (back_after ≡ back) ⊎ ((settings : Settings) × (form : Form) × AreNamed words files settings form × ((children : List Kid) × CameBack own settings.connections back back_after children))
+    (back_after ≡ back) ⊎ ((settings : Settings) × (form : Form) × AreNamed words files settings form × ((children : List Kid) × CameBack own (with_child settings.connections) back back_after children))
 
 -- the words name a file whose settings are refused, by a line of which this holds
 pub record AreNone (words : List (List ℕ)) (files : List ℕ → FileTold) (faults faults_after : ℕ) (P : List ℕ → Type 0) : Type 0 where

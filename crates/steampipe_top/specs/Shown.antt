@@ -13,11 +13,11 @@ use Rattle.answer_text.specs.declared.answer.ShownEnd.TheVariants as shown
 use Rattle.decl_words.specs.declared.fault.DeclFault.{DeclFault}
 use Rattle.decl_words.specs.declared.fault.DeclFault.TheVariants as decl
 use Rattle.run_lines.specs.declared.block.Block.{Block}
-use Rattle.session_core.specs.declared.answer.Answer.{Answer}
-use Rattle.session_core.specs.declared.answer.AnswerEnd.{AnswerEnd}
-use Rattle.session_core.specs.declared.answer.AnswerEnd.TheVariants as end
-use Rattle.session_core.specs.declared.answer.BlockFault.{BlockFault}
-use Rattle.session_core.specs.declared.answer.BlockFault.TheVariants as fault
+use Rattle.statement_run.specs.declared.answer.Answer.{Answer}
+use Rattle.statement_run.specs.declared.answer.AnswerEnd.{AnswerEnd}
+use Rattle.statement_run.specs.declared.answer.AnswerEnd.TheVariants as end
+use Rattle.statement_run.specs.declared.answer.BlockFault.{BlockFault}
+use Rattle.statement_run.specs.declared.answer.BlockFault.TheVariants as fault
 use Rattle.sp_model.specs.declared.scan.Cause.{Cause}
 use Rattle.sp_model.specs.declared.scan.Cause.TheVariants as cause
 use Rattle.sql_bind.specs.declared.fault.BindFault.{BindFault}
@@ -64,6 +64,8 @@ shown_fault fault.NotYet = shown.Error line.NotYet
 shown_fault (fault.Sql f) = shown_sql f
 shown_fault (fault.Bind f) = shown_bind f
 shown_fault (fault.BadDeclaration connection f) = shown_declaration connection f
+shown_fault (fault.DeclarationsDiffer connection) = shown.Error (line.DeclarationsDiffer connection)
+shown_fault (fault.MissingKeys source columns) = shown.Error (line.MissingKeys source columns)
 
 -- a scan that failed as a whole: by its version, or after a row
 abbrev pub scan_failure : ℕ → ℕ → Cause → ErrorLine

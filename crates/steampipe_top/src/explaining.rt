@@ -56,16 +56,16 @@ fn explained_status(blocks: &[Block]) -> Status
     }
 }
 
-/// Writes blocks. Where memory is wanting for their text, only the line that says so is written.
+/// Writes blocks. Where memory is wanting for their text, nothing is written.
+#[tactic(auto, using(crate::proofs::Answered::explained_so))]
 fn write_explanation<O: Sink>(alloc: Global, blocks: &[Block], answers: &mut O) -> Status
-    ensures written { IfAnswered result (IsExplanationWritten result blocks.now (O.held answers.old) (O.held answers.new)) }
+    ensures written { IfAnswered result (O.held answers.new ≡ O.held answers.old) (IsExplanationWritten result blocks.now (O.held answers.old) (O.held answers.new)) }
     ensures ends { IfRefused result (λ _. ⊥) }
     ensures later { IsPastFiles result }
     ensures cause { result ≡ Status.WriteFault → Rose (O.faulted answers.old) (O.faulted answers.new) }
 {
     let status = explained_status(blocks);
     let Ok(text) = blocks_text(alloc, blocks) else {
-        let _ = write_all(answers, b"error: memory\n");
         return Status::Memory;
     };
     match write_all(answers, &text) {
@@ -83,7 +83,7 @@ fn explain_input<I: Source, O: Sink, N: Sink>(
     notes: &mut N,
 ) -> Status
     requires sound { AreSound (declaration_of catalog.now) }
-    ensures explained { IfAnswered result (HasExplained catalog.now result (I.left input.old) (I.left input.new) (O.held answers.old) (O.held answers.new) (N.held notes.old) (N.held notes.new)) }
+    ensures explained { IfAnswered result ((O.held answers.new ≡ O.held answers.old) × (N.held notes.new ≡ N.held notes.old)) (HasExplained catalog.now result (I.left input.old) (I.left input.new) (O.held answers.old) (O.held answers.new) (N.held notes.old) (N.held notes.new)) }
     ensures read_fault { result ≡ Status.ReadFault → Rose (I.faulted input.old) (I.faulted input.new) }
     ensures input_limit { result ≡ Status.InputLimit → IsOverLimit (I.left input.old) (I.left input.new) }
     ensures write_fault { result ≡ Status.WriteFault → Rose (O.faulted answers.old) (O.faulted answers.new) }
@@ -142,7 +142,7 @@ pub fn explain<I: Source, F: Shelf, O: Sink, N: Sink>(
     answers: &mut O,
     notes: &mut N,
 ) -> Status
-    ensures explained { IfAnswered result (HasExplainedBy (F.file files.old) settings.now declaration.now result (I.left input.old) (I.left input.new) (O.held answers.old) (O.held answers.new) (N.held notes.old) (N.held notes.new)) }
+    ensures explained { IfAnswered result ((O.held answers.new ≡ O.held answers.old) × (N.held notes.new ≡ N.held notes.old)) (HasExplainedBy (F.file files.old) settings.now declaration.now result (I.left input.old) (I.left input.new) (O.held answers.old) (O.held answers.new) (N.held notes.old) (N.held notes.new)) }
     ensures usage { result ≢ Status.Usage }
     ensures settings { result ≡ Status.Settings → (line : List ℕ) × IsRefusedBy (F.file files.old) settings.now declaration.now (F.faulted files.old) (F.faulted files.new) line × ((O.held answers.new ≡ O.held answers.old) × IsNoted (N.faulted notes.old) (N.faulted notes.new) (N.held notes.old) (N.held notes.new) line) }
     ensures file_fault { result ≡ Status.FileFault → Rose (F.faulted files.old) (F.faulted files.new) }

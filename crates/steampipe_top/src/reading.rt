@@ -5,6 +5,7 @@ ghost use Rattle.serde_json.specs.View.{view};
 ghost use Rattle.decl_words.specs.Sound.{IsSound};
 ghost use Rattle.input_lines.specs.Lines.{blocks_of};
 ghost use Rattle.settings_text.specs.Reading.{read_settings, read_all_settings};
+ghost use Rattle.statement_run.specs.Settings.{CanRun};
 ghost use Rattle.sp_outside.specs.Files.{IsFile};
 ghost use Rattle.sp_world.specs.LineJson.{json_of};
 ghost use Rattle.steampipe_top.specs.Reading.{AreSettings, AreBadSettings, IsDeclaration, IsBadDeclaration, ReadsAs, IsFileEnd, IsUnreadEnd, IsTextEnd, IsInput, IsInputEnd};
@@ -69,6 +70,7 @@ pub(crate) fn settings_of<F: Shelf>(
     file: &Text,
 ) -> Result<Settings, FileEnd>
     ensures ok { IfOk result (AreSettings read_settings (F.file files.old file.now)) }
+    ensures can_run { IfOk result CanRun }
     ensures end { IfErr result (IsFileEnd (AreBadSettings read_settings) (codes "settings") (F.file files.old file.now) (F.faulted files.old) (F.faulted files.new)) }
 {
     let text = match text_of(alloc, files, file, "settings") {

@@ -6,11 +6,11 @@ ghost use Rattle.steampipe_top.specs.Shown.{shown_sql, shown_bind, declaration_f
 use answer_text::{DeclarationFault, ErrorLine, ShownEnd};
 use decl_words::DeclFault;
 use run_lines::Block;
-use session_core::{Answer, AnswerEnd, BlockFault};
 use sp_model::Cause;
 use sp_value::Text;
 use sql_bind::BindFault;
 use sql_parser::SqlFault;
+use statement_run::{Answer, AnswerEnd, BlockFault};
 
 /// A block as it is shown.
 #[derive(Drop)]
@@ -87,6 +87,12 @@ fn shown_fault(fault: BlockFault) -> ShownEnd
         BlockFault::Sql(fault) => shown_sql(fault),
         BlockFault::Bind(fault) => shown_bind(fault),
         BlockFault::BadDeclaration { connection, fault } => shown_declaration(connection, fault),
+        BlockFault::DeclarationsDiffer { connection } => {
+            ShownEnd::Error(ErrorLine::DeclarationsDiffer { connection })
+        }
+        BlockFault::MissingKeys { source, columns } => {
+            ShownEnd::Error(ErrorLine::MissingKeys { source, columns })
+        }
     }
 }
 

@@ -1,7 +1,8 @@
 ghost use Rattle.std.specs.Prelude.{◌≡◌, ◌≢◌, ◌⊎◌, List, ℕ, length, MatchOption};
 ghost use Rattle.sp_outside.specs.Causes.{Rose};
 ghost use Rattle.command_words.specs.Words.{words_of};
-ghost use Rattle.run_lines.specs.Blocks.{CameBack};
+ghost use Rattle.run_lines.specs.Blocks.{CameBack, with_child};
+ghost use Rattle.statement_run.specs.Settings.{CanRun};
 ghost use Rattle.steampipe_top.specs.Reading.{IsOverLimit};
 ghost use Rattle.steampipe_top.specs.Running.{AreNone, AreReturned, IsPastFiles, HasAnswered, HasRun, IsNotYet, IsNoted, IfAnswered, IfRefused};
 ghost use Rattle.steampipe_top.specs.Explaining.{HasExplainedBy, IsReady, IsRefusedBy, IsToExplain};
@@ -18,12 +19,14 @@ use sp_outside::{Clock, Nursery, Shelf, Sink, Source};
 use sp_value::{Memory, Text};
 use sp_world::World;
 use std::alloc::Global;
+use std::sync::Wait;
 
 const USAGE: &[u8] =
     b"usage: steampipe [--output line|csv|json|table] query SETTINGS, explain SETTINGS DECLARATION, load NUMBER\n";
 
 /// Reads and answers an input by settings, and writes the answers and then the notes.
-fn run<W: World, I: Source, O: Sink, N: Sink, M: Nursery<W>, K: Clock>(
+fn run<R: Wait, W: World, I: Source, O: Sink, N: Sink, M: Nursery<W>, K: Clock>(
+    rt: &R,
     alloc: Global,
     settings: &Settings,
     form: Form,
@@ -34,13 +37,14 @@ fn run<W: World, I: Source, O: Sink, N: Sink, M: Nursery<W>, K: Clock>(
     clock: &K,
 ) -> Status
     requires all_back { length (M.back nursery.old) ≡ M.made nursery.old }
-    ensures answered { IfAnswered result (HasAnswered M.Kid.faulted M.Kid.gives M.Kid.connection W.tells W.book settings.now form result (record { left = I.left input.old; held = O.held answers.old; notes = N.held notes.old; back = M.back nursery.old }) (record { left = I.left input.new; held = O.held answers.new; notes = N.held notes.new; back = M.back nursery.new })) }
+    requires can_run { CanRun settings.now }
+    ensures answered { IfAnswered result ((O.held answers.new ≡ O.held answers.old) × (N.held notes.new ≡ N.held notes.old)) (HasAnswered M.Kid.faulted M.Kid.gives M.Kid.connection W.tells W.book settings.now form result (record { left = I.left input.old; held = O.held answers.old; notes = N.held notes.old; back = M.back nursery.old }) (record { left = I.left input.new; held = O.held answers.new; notes = N.held notes.new; back = M.back nursery.new })) }
     ensures read_fault { result ≡ Status.ReadFault → Rose (I.faulted input.old) (I.faulted input.new) }
     ensures input_limit { result ≡ Status.InputLimit → IsOverLimit (I.left input.old) (I.left input.new) }
     ensures write_fault { result ≡ Status.WriteFault → Rose (O.faulted answers.old) (O.faulted answers.new) ⊎ Rose (N.faulted notes.old) (N.faulted notes.new) }
     ensures refused { IfRefused result (λ line. (O.held answers.new ≡ O.held answers.old) × IsNoted (N.faulted notes.old) (N.faulted notes.new) (N.held notes.old) (N.held notes.new) line) }
     ensures later { IsPastFiles result }
-    ensures children { (children : List M.Kid) × CameBack M.Kid.connection settings.now.connections (M.back nursery.old) (M.back nursery.new) children }
+    ensures children { (children : List M.Kid) × CameBack M.Kid.connection (with_child settings.now.connections) (M.back nursery.old) (M.back nursery.new) children }
     ensures back { length (M.back nursery.new) ≡ M.made nursery.new }
 {
     let lines = match lines_of(alloc, input) {
@@ -49,19 +53,29 @@ fn run<W: World, I: Source, O: Sink, N: Sink, M: Nursery<W>, K: Clock>(
         Err(InputEnd::Limit) => return refuse(notes, b"error: input limit\n", Status::InputLimit),
         Err(InputEnd::Memory) => return Status::Memory,
     };
-    match run_lines::<W, M, K>(alloc, settings, lines.as_slice(), nursery, clock) {
+    match run_lines::<R, W, M, K>(rt, alloc, settings, lines.as_slice(), nursery, clock) {
         Ok(blocks) => write_blocks(alloc, form, blocks, answers, notes),
         Err(Memory) => Status::Memory,
     }
 }
 
-/// The program: reads the words, the settings file and the whole input, answers its lines over a child of each connection, and writes
+/// The program: reads the words, the settings file and the whole input, answers its lines over a child of each plain connection, and writes
 /// the answers and then the notes.
 ///
 /// The words are those of `command_words`, all others are `Usage`. `explain` reads a declaration file too, makes no child, and writes what
 /// statements would scan; `load` comes later, and is answered so. The input has at most 1,048,576 bytes and 10,000 lines.
 /// A run that is refused writes one line to the notes and nothing to the answers.
-pub fn steampipe<W: World, I: Source, F: Shelf, O: Sink, N: Sink, M: Nursery<W>, K: Clock + Sync>(
+pub fn steampipe<
+    R: Wait,
+    W: World,
+    I: Source,
+    F: Shelf,
+    O: Sink,
+    N: Sink,
+    M: Nursery<W>,
+    K: Clock + Sync,
+>(
+    rt: &R,
     alloc: Global,
     words: &[Text],
     input: &mut I,
@@ -72,7 +86,7 @@ pub fn steampipe<W: World, I: Source, F: Shelf, O: Sink, N: Sink, M: Nursery<W>,
     clock: &K,
 ) -> Status
     requires all_back { length (M.back nursery.old) ≡ M.made nursery.old }
-    ensures answered { IfAnswered result (HasRun M.Kid.faulted M.Kid.gives M.Kid.connection W.tells W.book words.now (F.file files.old) result (record { left = I.left input.old; held = O.held answers.old; notes = N.held notes.old; back = M.back nursery.old }) (record { left = I.left input.new; held = O.held answers.new; notes = N.held notes.new; back = M.back nursery.new }) ⊎ IsToExplain words.now (λ file second. HasExplainedBy (F.file files.old) file second result (I.left input.old) (I.left input.new) (O.held answers.old) (O.held answers.new) (N.held notes.old) (N.held notes.new)) ⊎ IsNotYet words.now result (O.held answers.old) (O.held answers.new) (N.held notes.old) (N.held notes.new)) }
+    ensures answered { IfAnswered result ((O.held answers.new ≡ O.held answers.old) × (N.held notes.new ≡ N.held notes.old)) (HasRun M.Kid.faulted M.Kid.gives M.Kid.connection W.tells W.book words.now (F.file files.old) result (record { left = I.left input.old; held = O.held answers.old; notes = N.held notes.old; back = M.back nursery.old }) (record { left = I.left input.new; held = O.held answers.new; notes = N.held notes.new; back = M.back nursery.new }) ⊎ IsToExplain words.now (λ file second. HasExplainedBy (F.file files.old) file second result (I.left input.old) (I.left input.new) (O.held answers.old) (O.held answers.new) (N.held notes.old) (N.held notes.new)) ⊎ IsNotYet words.now result (O.held answers.old) (O.held answers.new) (N.held notes.old) (N.held notes.new)) }
     ensures usage { MatchOption (words_of words.now) ((result ≡ Status.Usage) ⊎ (result ≡ Status.Memory)) (λ _. result ≢ Status.Usage) }
     ensures settings { result ≡ Status.Settings → AreNone words.now (F.file files.old) (F.faulted files.old) (F.faulted files.new) (λ line. (O.held answers.new ≡ O.held answers.old) × IsNoted (N.faulted notes.old) (N.faulted notes.new) (N.held notes.old) (N.held notes.new) line) ⊎ IsToExplain words.now (λ file second. (line : List ℕ) × IsRefusedBy (F.file files.old) file second (F.faulted files.old) (F.faulted files.new) line × ((O.held answers.new ≡ O.held answers.old) × IsNoted (N.faulted notes.old) (N.faulted notes.new) (N.held notes.old) (N.held notes.new) line)) }
     ensures file_fault { result ≡ Status.FileFault → Rose (F.faulted files.old) (F.faulted files.new) }
@@ -85,8 +99,8 @@ pub fn steampipe<W: World, I: Source, F: Shelf, O: Sink, N: Sink, M: Nursery<W>,
 {
     match read_task(alloc, words) {
         Task::Query { settings, form } => match settings_of(alloc, files, &settings) {
-            Ok(settings) => run::<W, I, O, N, M, K>(
-                alloc, &settings, form, input, answers, notes, nursery, clock,
+            Ok(settings) => run::<R, W, I, O, N, M, K>(
+                rt, alloc, &settings, form, input, answers, notes, nursery, clock,
             ),
             Err(FileEnd::Refused(line)) => refuse(notes, &line, Status::Settings),
             Err(FileEnd::Fault) => refuse(notes, b"error: file fault\n", Status::FileFault),

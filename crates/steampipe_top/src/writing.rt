@@ -9,10 +9,10 @@ use crate::shown::{ShownBlock, shown_block};
 use crate::status::Status;
 use answer_text::{Form, block, notes};
 use run_lines::Block;
-use session_core::AnswerEnd;
 use sp_outside::{Sink, write_all};
 use sp_value::Memory;
 use sqlite_items::Items;
+use statement_run::AnswerEnd;
 use std::alloc::Global;
 
 /// Writes one line to the notes, as far as they take it.
@@ -146,7 +146,8 @@ pub(crate) fn write_not_yet<O: Sink>(answers: &mut O) -> Status
     }
 }
 
-/// Writes the answers of blocks and then their notes. Where memory is wanting for their texts, only the line that says so is written.
+/// Writes the answers of blocks and then their notes. Where memory is wanting for their texts, nothing is written.
+#[tactic(auto, using(crate::proofs::Answered::written_so))]
 pub(crate) fn write_blocks<O: Sink, N: Sink>(
     alloc: Global,
     form: Form,
@@ -154,14 +155,13 @@ pub(crate) fn write_blocks<O: Sink, N: Sink>(
     answers: &mut O,
     notes: &mut N,
 ) -> Status
-    ensures written { IfAnswered result (IsWritten form result blocks (O.held answers.old) (O.held answers.new) (N.held notes.old) (N.held notes.new)) }
+    ensures written { IfAnswered result ((O.held answers.new ≡ O.held answers.old) × (N.held notes.new ≡ N.held notes.old)) (IsWritten form result blocks (O.held answers.old) (O.held answers.new) (N.held notes.old) (N.held notes.new)) }
     ensures ends { IfRefused result (λ _. ⊥) }
     ensures later { IsPastFiles result }
     ensures cause { result ≡ Status.WriteFault → Rose (O.faulted answers.old) (O.faulted answers.new) ⊎ Rose (N.faulted notes.old) (N.faulted notes.new) }
 {
     let status = blocks_status(blocks.as_slice());
     let Ok(written) = to_write(alloc, form, blocks) else {
-        let _ = write_all(answers, b"error: memory\n");
         return Status::Memory;
     };
     if write_all(answers, &written.answers).is_err() {

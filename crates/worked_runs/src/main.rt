@@ -26,6 +26,7 @@ use crate::serving::{refuse_case, serve_case};
 use crate::told::told_case;
 use serde_json::Value;
 use std::alloc::Global;
+use std::sync::Wait;
 use std::{env, fs, io};
 
 const MEMBERS: [&str; 6] = [
@@ -78,10 +79,15 @@ impl Kind {
     }
 }
 
-fn try_case(alloc: Global, kind: Kind, given: Given) -> Result<Differences, CaseFault> {
+fn try_case<H: Wait>(
+    wait: &H,
+    alloc: Global,
+    kind: Kind,
+    given: Given,
+) -> Result<Differences, CaseFault> {
     match kind {
-        Kind::Run => run_case(alloc, given),
-        Kind::Told => told_case(alloc, given),
+        Kind::Run => run_case(wait, alloc, given),
+        Kind::Told => told_case(wait, alloc, given),
         Kind::Serving => serve_case(alloc, given),
         Kind::Refusal => refuse_case(alloc, given),
     }
@@ -95,12 +101,12 @@ struct Place<'a> {
     number: usize,
 }
 
-fn print_case(rt: &HostRuntime, place: &Place, given: Given) -> io::Result<()> {
+fn print_case<H: Wait>(rt: &HostRuntime, wait: &H, place: &Place, given: Given) -> io::Result<()> {
     let path = place.path;
     let label = place.kind.label();
     let number = place.number;
     let name = given.name();
-    match try_case(rt.alloc(), place.kind, given) {
+    match try_case(wait, rt.alloc(), place.kind, given) {
         Ok(found) => {
             for line in found.lines.as_slice() {
                 println!(rt; "{path}, {label} {number}, {name}: {line}")?;
@@ -111,8 +117,9 @@ fn print_case(rt: &HostRuntime, place: &Place, given: Given) -> io::Result<()> {
     }
 }
 
-fn run_cases(
+fn run_cases<H: Wait>(
     rt: &HostRuntime,
+    wait: &H,
     path: &str,
     kind: Kind,
     cases: &[Value],
@@ -122,7 +129,12 @@ fn run_cases(
     for (index, case) in cases.iter().enumerate() {
         if kind.has(case) {
             let number = index.saturating_add(1);
-            print_case(rt, &Place { path, kind, number }, Given { case, names })?;
+            print_case(
+                rt,
+                wait,
+                &Place { path, kind, number },
+                Given { case, names },
+            )?;
             count = count.saturating_add(1);
         }
     }
@@ -132,12 +144,18 @@ fn run_cases(
     }
 }
 
-fn run_kind(rt: &HostRuntime, path: &str, kind: Kind, names: Names) -> io::Result<()> {
+fn run_kind<H: Wait>(
+    rt: &HostRuntime,
+    wait: &H,
+    path: &str,
+    kind: Kind,
+    names: Names,
+) -> io::Result<()> {
     let Some(value) = names.file.get(kind.member()) else {
         return Ok(());
     };
     match value.as_array() {
-        Some(cases) => run_cases(rt, path, kind, cases.as_slice(), names),
+        Some(cases) => run_cases(rt, wait, path, kind, cases.as_slice(), names),
         None => println!(rt; "{path}: {} are no list", kind.member()),
     }
 }
@@ -159,12 +177,12 @@ fn print_check(rt: &HostRuntime, path: &str, file: &Value) -> io::Result<()> {
 }
 
 /// Every case of a file.
-fn run_file(rt: &HostRuntime, path: &str, names: Names) -> io::Result<()> {
+fn run_file<H: Wait>(rt: &HostRuntime, wait: &H, path: &str, names: Names) -> io::Result<()> {
     print_check(rt, path, names.file)?;
-    run_kind(rt, path, Kind::Run, names)?;
-    run_kind(rt, path, Kind::Told, names)?;
-    run_kind(rt, path, Kind::Serving, names)?;
-    run_kind(rt, path, Kind::Refusal, names)
+    run_kind(rt, wait, path, Kind::Run, names)?;
+    run_kind(rt, wait, path, Kind::Told, names)?;
+    run_kind(rt, wait, path, Kind::Serving, names)?;
+    run_kind(rt, wait, path, Kind::Refusal, names)
 }
 
 /// The JSON of a file. A file that is lost or no JSON is said, and counts as null.
@@ -198,7 +216,7 @@ fn main(rt: HostRuntime) -> io::Result<()> {
             file: &file,
             shared: &shared,
         };
-        run_file(&rt, path.as_str(), names)?;
+        run_file(&rt, &rt, path.as_str(), names)?;
     }
     Ok(())
 }

@@ -15,6 +15,7 @@ use sp_outside::{MemoryClock, MemoryShelf, MemorySink, MemorySource, Nursery};
 use sp_world::{Untold, World};
 use sqlite_items::Items;
 use std::alloc::{AllocError, Global};
+use std::sync::Wait;
 use steampipe_top::{Status, steampipe};
 
 pub(crate) const MEMBERS: [&str; 14] = [
@@ -23,7 +24,8 @@ pub(crate) const MEMBERS: [&str; 14] = [
 ];
 
 /// Runs the program over children of a nursery.
-pub(crate) fn run<W: World, M: Nursery<W>>(
+pub(crate) fn run<R: Wait, W: World, M: Nursery<W>>(
+    rt: &R,
     alloc: Global,
     setup: &mut Setup,
     clock: &MemoryClock,
@@ -31,7 +33,8 @@ pub(crate) fn run<W: World, M: Nursery<W>>(
 ) -> Status
     requires { length (M.back nursery.old) ≡ M.made nursery.old }
 {
-    steampipe::<W, MemorySource, MemoryShelf, MemorySink, MemorySink, M, MemoryClock>(
+    steampipe::<R, W, MemorySource, MemoryShelf, MemorySink, MemorySink, M, MemoryClock>(
+        rt,
         alloc,
         setup.words.as_slice(),
         &mut setup.input,
@@ -154,13 +157,17 @@ fn compare_children(
 }
 
 /// Runs a case over children that answer as it says, of a world that doesn't tell.
-pub(crate) fn run_case(alloc: Global, given: Given) -> Result<Differences, CaseFault> {
+pub(crate) fn run_case<R: Wait>(
+    rt: &R,
+    alloc: Global,
+    given: Given,
+) -> Result<Differences, CaseFault> {
     members_of(alloc, given.case, "case", &MEMBERS)?;
     let mut setup = Setup::of(alloc, given)?;
     let clock = clock_of(alloc, given)?;
     let cases = children_of(alloc, given)?;
     let mut nursery = RunNursery::new(alloc, &clock, cases.as_slice());
-    let status = run::<Untold, RunNursery>(alloc, &mut setup, &clock, &mut nursery);
+    let status = run::<R, Untold, RunNursery>(rt, alloc, &mut setup, &clock, &mut nursery);
     let mut found = Differences::none(alloc);
     compare_written(alloc, &mut found, given, status, &setup)?;
     compare_children(alloc, &mut found, given, nursery.back.as_slice())?;

@@ -15,6 +15,7 @@ use sp_outside::{BookChild, BookNursery, ChildScript, Event};
 use sp_world::World;
 use sqlite_items::Items;
 use std::alloc::{AllocError, Global};
+use std::sync::Wait;
 
 /// Adds the lines that a child heard.
 fn push_heard(lines: &mut Vec<u8>, events: &[Event]) -> Result<(), AllocError> {
@@ -74,13 +75,18 @@ fn told_nursery<T: BookText>(
 }
 
 /// Runs a case over children that answer from the world of a text, and compares what comes as with other children.
-fn run_told<T: BookText>(alloc: Global, given: Given) -> Result<Differences, CaseFault> {
+fn run_told<R: Wait, T: BookText>(
+    rt: &R,
+    alloc: Global,
+    given: Given,
+) -> Result<Differences, CaseFault> {
     let mut setup = Setup::of(alloc, given)?;
     let clock = clock_of(alloc, given)?;
     let cases = children_of(alloc, given)?;
     let scripts = scripts_of(alloc, cases.as_slice())?;
     let mut nursery = told_nursery::<T>(alloc, scripts);
-    let status = run::<TextWorld<T>, BookNursery<TextWorld<T>>>(
+    let status = run::<R, TextWorld<T>, BookNursery<TextWorld<T>>>(
+        rt,
         alloc,
         &mut setup,
         &clock,
@@ -93,12 +99,16 @@ fn run_told<T: BookText>(alloc: Global, given: Given) -> Result<Differences, Cas
 }
 
 /// Runs a case over the children of the world that it names, if it names one.
-pub(crate) fn told_case(alloc: Global, given: Given) -> Result<Differences, CaseFault> {
+pub(crate) fn told_case<R: Wait>(
+    rt: &R,
+    alloc: Global,
+    given: Given,
+) -> Result<Differences, CaseFault> {
     let Some(name) = given.case.get("world") else {
         return Ok(Differences::none(alloc));
     };
     match name.as_str() {
-        Some("ant and bee") => run_told::<AntAndBee>(alloc, given),
+        Some("ant and bee") => run_told::<R, AntAndBee>(rt, alloc, given),
         Some(name) => Err(CaseFault::Unnamed(String::from_str(alloc, name)?)),
         None => Err(CaseFault::Form("world")),
     }

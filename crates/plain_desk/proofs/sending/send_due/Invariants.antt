@@ -1,11 +1,10 @@
 use Rattle.std.proofs.Common.{◌≡◌}
-use Rattle.std.specs.Vec.{vec_len}
-use Rattle.plain_desk.specs.Slots.{Keeps, Stands}
+use Rattle.plain_desk.specs.Lost.{HasLost}
+use Rattle.plain_desk.specs.Slots.{IsSlot}
 use Rattle.plain_desk.proofs.sending.send_due.Given as goal
 
 abbrev pub invariant-loop : goal.invariant-loop
 invariant-loop g l = record {
-  keeps : Keeps l.parts.link.flights.items l.parts.gate.journal l.parts.tick;
-  stands : Stands l.parts.stage l.parts.link.up l.parts.link.flights.items (vec_len l.parts.waiting) l.parts.link.prepared;
+  slot : IsSlot (HasLost g.W.World.tells g.W.World.book g.C.Child.faulted g.C.Child.gives) l.parts;
   own : g.C.Child.connection l.parts.link.child ≡ g.C.Child.connection l.fn.parts.link.child;
 }

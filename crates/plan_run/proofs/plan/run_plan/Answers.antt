@@ -5,6 +5,8 @@ use Rattle.statement_words.specs.Advances.{AreTrue}
 use Rattle.statement_words.specs.Answered.{IsAt}
 use Rattle.statement_words.specs.Course.{course, from_sources}
 use Rattle.statement_words.proofs.Courses.{course_begins}
+use Rattle.statement_words.proofs.Stops.{later_still, later_then}
+use Rattle.plan_run.proofs.Ended.{still_known}
 use Rattle.plan_run.proofs.plan.run_plan.Goals as goal
 
 pub run_sources-end-requires-clause-run : goal.run_sources-end-requires-clause-run
@@ -28,7 +30,13 @@ returns-clause-notes g c =
     (subst (λ (notes : List ScanNote). AreTrue g.W.World.book c.args.settings.now.options began notes) (sym c.new-notes.ensures) (λ k n e. absurd (cc)))
 
 pub returns-clause-stop : goal.returns-clause-stop
-returns-clause-stop g c = c.run_sources-end.ensures.stop
+returns-clause-stop g c =
+    let ran = g.D.Desk.state c.run_sources-end.new.desk in
+    let ended = g.D.Desk.state c.end_statement.new.self in
+    still_known ran ended c.run_sources-end.result (later_still ran ended c.end_statement.ensures.state) c.run_sources-end.ensures.stop
 
 pub returns-clause-desk : goal.returns-clause-desk
-returns-clause-desk g c = c.run_sources-end.ensures.advances.later
+returns-clause-desk g c =
+    let ran = g.D.Desk.state c.run_sources-end.new.desk in
+    let ended = g.D.Desk.state c.end_statement.new.self in
+    later_then (g.D.Desk.state c.args.desk.now) ran ended c.run_sources-end.ensures.advances.later (later_still ran ended c.end_statement.ensures.state)

@@ -2,12 +2,10 @@
 use Rattle.std.proofs.Common.{◌≡◌, ◌≤◌, ◌+◌, ◌++◌, length, map, reverse}
 use Rattle.run_lines.proofs.children.give_back.Given as goal
 
-abbrev pub invariant-loop-kid : goal.invariant-loop-kid
-invariant-loop-kid g l = record {
-  back : g.M.Nursery.back l.nursery ++ map (λ k. k.child) (reverse l.kids.items) ≡ g.M.Nursery.back l.initial.nursery ++ map (λ k. k.child) l.fn.kids.items;
+abbrev pub invariant-loop : goal.invariant-loop
+invariant-loop g l = record {
+  back : g.M.Nursery.back l.nursery ++ map (λ s. s.link.child) (reverse l.slots.items) ≡ g.M.Nursery.back l.initial.nursery ++ map (λ s. s.link.child) l.fn.slots.items;
   made : g.M.Nursery.made l.nursery ≡ g.M.Nursery.made l.initial.nursery;
-  room : length (g.M.Nursery.back l.nursery) + length l.kids.items ≤ g.M.Nursery.made l.nursery;
+  left : l.counter + length l.slots.items ≡ length l.initial.slots.items;
+  room : length (g.M.Nursery.back l.nursery) + length l.slots.items ≤ g.M.Nursery.made l.nursery;
 }
-
-abbrev pub decreases-loop-kid : goal.decreases-loop-kid
-decreases-loop-kid g l = length l.kids.items

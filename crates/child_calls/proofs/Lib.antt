@@ -1,3 +1,0 @@
-mod Honest
-mod Pieces
-mod Started

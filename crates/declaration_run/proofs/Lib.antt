@@ -1,0 +1,4 @@
+pub mod Reading
+pub mod Catalogs
+pub mod Groups
+pub mod Loops

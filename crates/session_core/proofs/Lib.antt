@@ -1,4 +1,0 @@
-mod Ends
-mod NameLaws
-mod ReadAnswers
-pub mod StageLaws

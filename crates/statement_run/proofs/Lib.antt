@@ -1,0 +1,10 @@
+pub mod Eaches
+pub mod Agreements
+pub mod GetKeys
+pub mod Tables
+pub mod Sources
+pub mod Telling
+pub mod Plain
+pub mod Refusing
+pub mod Early
+pub mod Running
