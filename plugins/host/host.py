@@ -1,13 +1,15 @@
 #!/usr/bin/env python3
-"""A plugin for the machine that it runs on: packages, processes, users, mounts and listening sockets.
+"""A plugin for the machine that it runs on: packages and their files, processes, users, mounts and listening sockets.
 
-It reads a request a line and answers each by reply lines of the same number. A table is a line of
-TABLES: its columns, and a function that yields its items, each with a value for each column.
+It reads a request a line and answers each by reply lines of the same number. A table is a part of
+TABLES: its columns, a function that yields its items, each with a value for each column of its own,
+and where it has them its keys, its get, and the functions of the columns that cost a call a row.
 """
 import grp
 import json
 import os
 import pwd
+import re
 import socket
 import struct
 import subprocess
@@ -74,12 +76,20 @@ PACKAGE_FIELDS = {
     "installed_size": "${Installed-Size}",
     "status": "${db:Status-Status}",
 }
+SHOW_PACKAGES = ["dpkg-query", "--show", "--showformat=" + "\\t".join(PACKAGE_FIELDS.values()) + "\\n"]
 
 
-def packages():
-    """Installed Debian packages; `installed_size` is in KiB."""
-    fields = "\\t".join(PACKAGE_FIELDS.values()) + "\\n"
-    for line in output_lines(["dpkg-query", "--show", "--showformat=" + fields]):
+def packages(name=None):
+    """Installed Debian packages, or those of a name, one for each architecture; `installed_size` is in KiB."""
+    if name is None:
+        return installed(output_lines(SHOW_PACKAGES))
+    if not re.fullmatch("[a-z0-9][a-z0-9+.-]*", name):
+        return iter(())  # no package has such a name; dpkg-query would take it for a pattern, or for an option
+    return installed(output_lines([*SHOW_PACKAGES, name], nothing_found=1))
+
+
+def installed(lines):
+    for line in lines:
         values = line.split(b"\t")
         if len(values) != len(PACKAGE_FIELDS):
             continue
@@ -89,30 +99,55 @@ def packages():
             yield item
 
 
-def output_lines(command):
-    """The lines that a program writes. Its input is empty: it may not read the requests."""
+def count_files(package):
+    return {"files": len(files_of(package))}
+
+
+def package_files(package):
+    for found in packages(package):
+        for path in files_of(found):
+            yield {"package": found["name"], "architecture": found["architecture"], "path": text(path)}
+
+
+def files_of(package):
+    """The files and folders of a package, without the root."""
+    lines = output_lines(["dpkg-query", "--listfiles", f"{package['name']}:{package['architecture']}"], nothing_found=1)
+    return [line for line in lines if line.startswith(b"/") and line != b"/."]
+
+
+def output_lines(command, nothing_found=0):
+    """The lines that a program writes, none where it ends with the status that says so. Its input is empty: it may not read the requests."""
     try:
         done = subprocess.run(command, stdin=subprocess.DEVNULL, capture_output=True, timeout=60)
     except FileNotFoundError:
         raise Failure("NotFound", f"{command[0]} isn't installed") from None
     except subprocess.TimeoutExpired:
         raise Failure("Timeout", f"{command[0]} took more than 60 seconds") from None
-    if done.returncode != 0:
-        raise Failure("Failed", f"{command[0]}: {text(done.stderr).strip()}")
-    return done.stdout.splitlines()
+    if done.returncode == 0:
+        return done.stdout.splitlines()
+    if done.returncode == nothing_found:
+        return []
+    raise Failure("Failed", f"{command[0]}: {text(done.stderr).strip()}")
 
 
 # ---- processes
 
 
-def processes():
+def processes(pid=None):
+    """The processes, or the one of a number. The number of a thread is none of a process."""
     booted = boot_time()
     names = {user.pw_uid: text(user.pw_name) for user in reversed(pwd.getpwall())}
-    for pid in process_ids():
+    for found in process_ids():
+        if pid not in (None, found):
+            continue
         try:
-            yield process(pid, booted, names)
+            yield process(found, booted, names)
         except (FileNotFoundError, ProcessLookupError, PermissionError):
             continue  # it has ended, or it is hidden
+
+
+def count_open_files(process):
+    return {"open_files": len(os.listdir(f"/proc/{process['pid']}/fd"))}
 
 
 def process_ids():
@@ -260,26 +295,57 @@ def socket_owners():
 
 
 class Table:
-    def __init__(self, name, function, items, columns):
+    """A column's kind stands by itself, or before the function whose result has its field. `items` is called with the values of keys by
+    their columns' names."""
+
+    def __init__(self, name, function, items, columns, keys=(), get=None, functions=()):
         self.name = name
-        self.function = function
         self.items = items
         self.columns = columns
+        self.list = {"function": function, "keys": list(keys)} if keys else {"function": function}
+        self.get = get
+        self.functions = {function.name: function for function in functions}
 
     def declaration(self):
-        columns = [{"name": name, "kind": kind} for name, kind in self.columns.items()]
-        return {"name": self.name, "columns": columns, "list": {"function": self.function}}
+        declared = {"name": self.name, "columns": [column(*named) for named in self.columns.items()], "list": self.list}
+        if self.get:
+            declared["get"] = self.get
+        if self.functions:
+            declared["functions"] = [function.declaration() for function in self.functions.values()]
+        return declared
+
+
+def column(name, kind):
+    if isinstance(kind, str):
+        return {"name": name, "kind": kind}
+    kind, function = kind
+    return {"name": name, "kind": kind, "function": function}
+
+
+class Function:
+    def __init__(self, name, result, ignore=()):
+        self.name = name
+        self.result = result
+        self.ignore = list(ignore)
+
+    def declaration(self):
+        return {"name": self.name, "ignore": self.ignore} if self.ignore else {"name": self.name}
 
 
 TABLES = [
     Table("package", "listPackages", packages, {
         "name": "text", "version": "text", "architecture": "text", "section": "text", "priority": "text",
-        "source": "text", "maintainer": "text", "summary": "text", "installed_size": "int",
-    }),
+        "source": "text", "maintainer": "text", "summary": "text", "installed_size": "int", "files": ("int", "countFiles"),
+    }, keys=[{"column": "name", "require": "optional"}], functions=[Function("countFiles", count_files)]),
+    Table("package_file", "listPackageFiles", package_files, {
+        "package": "text", "architecture": "text", "path": "text",
+    }, keys=[{"column": "package", "match": "exact"}]),
     Table("process", "listProcesses", processes, {
         "pid": "int", "parent_pid": "int", "name": "text", "state": "text", "user_id": "int", "user_name": "text",
-        "threads": "int", "resident_bytes": "int", "started_at": "text", "arguments": "json",
-    }),
+        "threads": "int", "resident_bytes": "int", "started_at": "text", "arguments": "json", "open_files": ("int", "countOpenFiles"),
+    }, get={"function": "getProcess", "keys": [{"column": "pid"}]},
+        # A process may have ended meanwhile, or be another user's.
+        functions=[Function("countOpenFiles", count_open_files, ignore=["NotFound:*", "AccessDenied:*"])]),
     Table("user", "listUsers", users, {
         "name": "text", "user_id": "int", "group_id": "int", "group_name": "text", "comment": "text",
         "home": "text", "shell": "text", "groups": "json",
@@ -305,19 +371,40 @@ def version(_request):
     yield {"version": VERSION}
 
 
-def list_items(request):
+def table_of(request):
     for table in TABLES:
-        if table.name == request.get("table") and table.function == request.get("function"):
-            if request.get("conditions"):
-                raise Failure("Unsupported", f"the table {table.name} has no keys")
-            for item in table.items():
-                yield {"item": item}
-            yield {"end": True}
-            return
-    raise Failure("Unsupported", "there is no such table or function")
+        if table.name == request.get("table"):
+            return table
+    raise Failure("Unsupported", "there is no such table")
 
 
-OPERATIONS = {"declare": declare, "version": version, "list": list_items}
+def found_items(request):
+    """The items of a list or a get: those of the table that the values of its keys leave."""
+    table = table_of(request)
+    access = table.list if request["op"] == "list" else table.get
+    if access is None or access["function"] != request.get("function"):
+        raise Failure("Unsupported", f"the table {table.name} has no such function")
+    keys = {key["column"] for key in access.get("keys", [])}
+    values = {}
+    for name, operator, value in request.get("conditions") or []:
+        if name not in keys or operator != "=":
+            raise Failure("Unsupported", f"the table {table.name} has no such key")
+        values[name] = value
+    for item in table.items(**values):
+        yield {"item": item}
+    yield {"end": True}
+
+
+def hydrate(request):
+    table = table_of(request)
+    function = table.functions.get(request.get("function"))
+    if function is None:
+        raise Failure("Unsupported", f"the table {table.name} has no such function")
+    yield {"item": function.result(request["item"])}
+    yield {"end": True}
+
+
+OPERATIONS = {"declare": declare, "version": version, "list": found_items, "get": found_items, "hydrate": hydrate}
 
 
 def replies(request):
@@ -331,7 +418,7 @@ def replies(request):
         yield {"error": str(failure)}
     except BrokenPipeError:
         raise  # nobody reads the replies
-    except FileNotFoundError as error:
+    except (FileNotFoundError, ProcessLookupError) as error:
         yield {"error": f"NotFound: {text(str(error))}"}
     except PermissionError as error:
         yield {"error": f"AccessDenied: {text(str(error))}"}
