@@ -7,7 +7,6 @@ use Rattle.sp_model.specs.RowOf.{columns_named}
 use Rattle.sp_model.specs.declared.declaration.ColumnDecl.{ColumnDecl}
 use Rattle.sp_model.specs.declared.declaration.TableDecl.{TableDecl}
 use Rattle.sp_model.specs.declared.outcome.Row.{Row}
-use Rattle.decl_words.specs.Limits.{table_fits}
 use Rattle.decl_words.specs.Sound.{IsSound}
 use Rattle.hydrate_graph.specs.Ends.{IsEndOf, IsBroken}
 use Rattle.hydrate_graph.specs.declared.ends.RowEnd.{RowEnd}

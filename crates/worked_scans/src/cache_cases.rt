@@ -1,7 +1,9 @@
 //! What comes of the calls of `query_cache`.
 
-ghost use Rattle.std.specs.Prelude.{◌≤◌, ◌^◌};
+ghost use Rattle.std.specs.Prelude.{◌≡◌, ◌≤◌, ◌^◌, length};
+ghost use Rattle.std.specs.List.{AllByRecursion};
 
+use crate::kept_rows::rows;
 use crate::tables::{cell_of, number_at, texts_of};
 use case_tables::{push_word, str_at, word};
 use query_cache::Cache;
@@ -17,6 +19,7 @@ const LAST: u64 = 4_611_686_018_427_387_904;
 
 pub fn outcome(alloc: Global, call: &str, given: &[Vec<u8>]) -> Option<String> {
     match call {
+        "rows" => rows(alloc, given),
         "steps" => steps(alloc, given),
         _ => None,
     }
@@ -76,14 +79,16 @@ fn keep(
     if asked > LAST {
         return None;
     }
-    let kept = Arc::new(alloc, kept_of(alloc, request, asked, complete)).ok()?;
-    cache.keep(kept);
+    let kept = kept_of(request, Rows::new(alloc), asked, complete);
+    cache.keep(Arc::new(alloc, kept).ok()?);
     word(alloc, "kept")
 }
 
-/// A scan that gave no rows.
-fn kept_of(alloc: Global, request: ScanRequest, asked: u64, complete: bool) -> Kept<Untold>
-    requires { asked ≤ 2 ^ 62 }
+/// A scan with its rows.
+#[tactic(auto, using(crate::proofs::Kept::has_form))]
+pub fn kept_of(request: ScanRequest, rows: Rows, asked: u64, complete: bool) -> Kept<Untold>
+    requires tick { asked ≤ 2 ^ 62 }
+    requires rows { AllByRecursion (λ row. length row ≡ length request.columns) rows }
 {
     let note = ScanNote {
         request,
@@ -94,13 +99,13 @@ fn kept_of(alloc: Global, request: ScanRequest, asked: u64, complete: bool) -> K
     };
     Kept::of(KeptScan {
         note,
-        rows: Rows::new(alloc),
+        rows,
         complete,
     })
 }
 
 /// A table, columns, conditions, the columns that only filter, and the limit, with ` | ` between them; `-` where there is no condition or no limit.
-fn request_of(alloc: Global, text: &str) -> Option<ScanRequest> {
+pub fn request_of(alloc: Global, text: &str) -> Option<ScanRequest> {
     let (table, more) = text.split_once(" | ")?;
     let (columns, more) = more.split_once(" | ")?;
     let (conditions, more) = more.split_once(" | ")?;

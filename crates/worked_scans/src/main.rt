@@ -5,6 +5,7 @@
 mod bucket_cases;
 mod cache_cases;
 mod graph_cases;
+mod kept_rows;
 mod pool_cases;
 mod retry_cases;
 mod stream_cases;
