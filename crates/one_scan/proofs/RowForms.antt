@@ -169,7 +169,7 @@ put_attempt plan attempts k a apart is some all (Some slot) at j = by (cases_eq 
 
 -- a piece is taken in
 heard_by : (row : RowCalls) (k : ℕ) (p : Piece) (tick : ℕ) → AreApart row.graph.plan.slots → IsSoundPiece p → IsRowForm row.graph.plan row
-    → (o : Option Outcome) → IsResultOutcome o → IsRowForm row.graph.plan (record { graph = settled_so row.graph k o; attempts = with_attempt row.attempts (slot_of row.graph.plan k) (heard_attempt (rule_at row.graph.plan k) tick p (attempt_of row k)) })
+    → (o : Option Outcome) → IsResultOutcome o → IsRowForm row.graph.plan (record { graph = settled_so row.graph k o; attempts = with_attempt row.attempts (slot_of row.graph.plan k) (heard_attempt (rule_at row.graph.plan k) tick p (attempt_of row k)); all_listed = false })
 heard_by row k p tick apart sound f o is =
     let some : 1 ≤ attempts_of (rule_at row.graph.plan k).retry = (let l = (f.attempts k).last in omega (arith, l)) in
     record {

@@ -59,6 +59,7 @@ hears_row row k p tick is =
       room = attempts_length row.attempts (slot_of row.graph.plan k) _ ∙ is.room ∙ ap (λ q. q.room) (sym plan);
       rules = ap (λ q. length q.rules) plan ∙ is.rules ∙ ap (λ q. length q.functions) (sym plan);
       settled = settled_length row.graph k _ ∙ is.settled ∙ ap (λ q. length q.functions) (sym plan);
+      listed = λ said. absurd (cc);
     }
 
 -- ---- each row in its way

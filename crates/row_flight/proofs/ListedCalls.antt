@@ -14,9 +14,9 @@ use Rattle.row_flight.proofs.Stepping.{stays, listed_goes}
 use Rattle.row_flight.proofs.Viewing.{at_other}
 use Rattle.row_flight.specs.Attempts.{fresh, listed_attempt}
 use Rattle.row_flight.specs.Flying.{key_at}
-use Rattle.row_flight.specs.Jobs.{made_of, IsCallOf, IsRowJob, AreListed, RowLists}
+use Rattle.row_flight.specs.Jobs.{made_of, IsCallOf, IsRowJob, RowLists}
 use Rattle.row_flight.specs.Pooled.{IsSound}
-use Rattle.row_flight.specs.Rows.{flight_row, attempt_in, with_attempt, slot_of, attempt_of, call_of, is_open, row_lists, IsRow, IsPlaced}
+use Rattle.row_flight.specs.Rows.{flight_row, attempt_in, with_attempt, slot_of, attempt_of, call_of, is_open, row_lists, AreListed, IsRow, IsPlaced}
 use Rattle.row_flight.specs.declared.frame.CallFrame.{CallFrame}
 use Rattle.row_flight.specs.declared.frame.Wanted.{Wanted}
 use Rattle.row_flight.specs.declared.row.RowCalls.{RowCalls}
@@ -28,8 +28,8 @@ and_both false b p q = absurd (cc)
 -- ---- one function
 
 module _ (row : RowCalls) (k slot : ℕ) (placed : IsPlaced row k slot) where
-  lists_at : row_lists row k ≡ record { graph = row.graph; attempts = set row.attempts slot (listed_attempt (attempt_of row k)) }
-  lists_at = ap (λ t. record { graph = row.graph; attempts = with_attempt row.attempts t (listed_attempt (attempt_of row k)) }) placed.at
+  lists_at : row_lists row k ≡ record { graph = row.graph; attempts = set row.attempts slot (listed_attempt (attempt_of row k)); all_listed = row.all_listed }
+  lists_at = ap (λ t. record { graph = row.graph; attempts = with_attempt row.attempts t (listed_attempt (attempt_of row k)); all_listed = row.all_listed }) placed.at
 
   pub listed_here : attempt_of (row_lists row k) k ≡ listed_attempt (attempt_of row k)
   listed_here =
@@ -59,7 +59,7 @@ module _ (row : RowCalls) (k slot : ℕ) (placed : IsPlaced row k slot) where
         more = w ∷ [];
         grows = grows;
         graph = refl;
-        sound = record { room = attempts_length row.attempts (slot_of row.graph.plan k) (listed_attempt (attempt_of row k)) ∙ is.room; rules = is.rules; settled = is.settled };
+        sound = record { room = attempts_length row.attempts (slot_of row.graph.plan k) (listed_attempt (attempt_of row k)) ∙ is.room; rules = is.rules; settled = is.settled; listed = λ all. absurd (unlisted (is.listed all k placed.declared)) };
         stays = λ j o. listed_stays l j o (cases_eq j k);
         differs = λ j. listed_differs j (cases_eq j k);
         jobs = λ place v at. jobs place v at;
@@ -68,6 +68,9 @@ module _ (row : RowCalls) (k slot : ℕ) (placed : IsPlaced row k slot) where
             (ap (λ n. call_of n row k) (sym name) ∙ ap (call_of frame.table row) e ∙ job.asked) (job.attempt ∙ ap (λ n. suc (attempt_of row n).tries) (sym e));
       }
     where
+      unlisted : (is_ready row.graph k && not (attempt_of row k).listed) ≡ false → ⊥
+      unlisted none = let bad : true ≡ false = sym (and_both (is_ready row.graph k) (not (attempt_of row k).listed) may (ap not l)) ∙ none in cc
+
       here : w.seat.function ≡ k
       here = ap (λ s. s.function) job.seat_is ∙ sym e
 
@@ -140,7 +143,7 @@ job_stays frame scan key old new before after lists other w job =
     }
   where
     asked : new.graph ≡ old.graph → call_of frame.table new w.seat.function ≡ call_of frame.table old w.seat.function
-    asked e = ap (λ g. call_of frame.table (record { graph = g; attempts = new.attempts }) w.seat.function) e
+    asked e = ap (λ g. call_of frame.table (record { graph = g; attempts = new.attempts; all_listed = new.all_listed }) w.seat.function) e
 
 open_stays : (frame : CallFrame) (scan : ℕ) (key : Key) (old new : RowCalls) (before after : List Wanted) → RowLists frame scan key old new before after → (k : ℕ) → is_open old k ≡ true → is_open new k ≡ true
 open_stays frame scan key old new before after lists k o =
@@ -239,3 +242,26 @@ done_more frame scan key row now next items index xs ys graph are lists here don
     by (inr other) =
         let before : (attempt_of now k).listed ≡ true = done place k (omega (arith, l, other)) at in
         ap (λ a. a.listed) (lists.stays k (and_both (is_ready now.graph k) (attempt_of now k).listed (ready_at row now items graph are place k at) before)) ∙ before
+
+-- a row says that all are listed
+pub said_listed : (frame : CallFrame) (scan : ℕ) (key : Key) (old new : RowCalls) (before after : List Wanted) → AreListed new → RowLists frame scan key old new before after
+    → RowLists frame scan key old (record new { all_listed = true }) before after
+said_listed frame scan key old new before after all lists = record {
+  more = lists.more;
+  grows = lists.grows;
+  graph = lists.graph;
+  sound = record { room = lists.sound.room; rules = lists.sound.rules; settled = lists.sound.settled; listed = λ said. all };
+  stays = lists.stays;
+  differs = lists.differs;
+  jobs = λ place w at.
+      let job = lists.jobs place w at in
+      record {
+        key_is = job.key_is;
+        scan_is = job.scan_is;
+        listed = job.listed;
+        call = record { seat_is = job.call.seat_is; asked = job.call.asked; attempt = job.call.attempt; due = job.call.due; connection = job.call.connection; version = job.call.version };
+      };
+  keeps = λ table request answers name functions columns sound apart agrees hears.
+      let goes = lists.keeps table request answers name functions columns sound apart agrees hears in
+      record { keeps = goes.keeps; hears = goes.hears };
+}

@@ -15,10 +15,10 @@ use Rattle.row_flight.proofs.Answering.{shown_at, sits_shown}
 use Rattle.row_flight.proofs.Going.{nothing_goes, then_goes, row_goes}
 use Rattle.row_flight.proofs.ListedCalls.{get_both, made_both, job_stays}
 use Rattle.row_flight.proofs.Pooling.{key_cases, new_differs, row_first, seated_same, some_of, rewritten}
-use Rattle.row_flight.specs.Rows.{IsRow}
+use Rattle.row_flight.specs.Rows.{AreListed, IsRow}
 use Rattle.row_flight.specs.Flying.{InFlight, Seated, IsOf, key_at, rows_in}
 use Rattle.row_flight.specs.Hearing.{AllHear, Keeps}
-use Rattle.row_flight.specs.Jobs.{made_of, DiffersInListed, DifferInListed, IsRowJob, IsJobOf, AreListed, RowLists, Lists, PoolLists, RowsListed}
+use Rattle.row_flight.specs.Jobs.{made_of, DiffersInListed, DifferInListed, IsRowJob, IsJobOf, RowLists, Lists, PoolLists, RowsListed}
 use Rattle.row_flight.specs.Pooled.{with_row, seated, AreApart as KeysApart, IsFlight, IsSound, Rewrites, RowsShown}
 use Rattle.row_flight.specs.declared.frame.CallFrame.{CallFrame}
 use Rattle.row_flight.specs.declared.frame.Wanted.{Wanted}

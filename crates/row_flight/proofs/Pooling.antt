@@ -103,7 +103,7 @@ on_some P None x e h = absurd (cc)
 on_some P (Some y) x e h = h
 
 pub begun_row : (p : Plan) (item : Cell) → length p.rules ≡ length p.functions → IsRow (begun p item)
-begun_row p item rules = record { room = length-replicate p.room fresh; rules = rules; settled = length-replicate (length p.functions) None }
+begun_row p item rules = record { room = length-replicate p.room fresh; rules = rules; settled = length-replicate (length p.functions) None; listed = λ said. absurd (cc) }
 
 length_push : (keys : List Key) (key : Key) → length (keys ++ key ∷ []) ≡ suc (length keys)
 length_push [] key = refl

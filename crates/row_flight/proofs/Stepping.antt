@@ -108,7 +108,7 @@ module _ (table : TableDecl) (request : ScanRequest) (answers : Answers) (row : 
   replies = answers (call.Hydrate table.name f.name row.graph.item results)
 
   abbrev with_present : Attempt → RowCalls
-  with_present a = record { graph = row.graph; attempts = with_attempt row.attempts (slot_of row.graph.plan number) a }
+  with_present a = record { graph = row.graph; attempts = with_attempt row.attempts (slot_of row.graph.plan number) a; all_listed = false }
 
   -- the present attempt is listed
   pub lists : AreApart table → is_wanted table.functions (columns_named request.columns table.columns) f.name ≡ true → present.listed ≡ false
@@ -154,7 +154,7 @@ module _ (table : TableDecl) (request : ScanRequest) (answers : Answers) (row : 
     -- ---- an ending
 
     abbrev settled_row : Outcome → Attempt → RowCalls
-    settled_row o a = record { graph = record { plan = row.graph.plan; item = row.graph.item; settled = set row.graph.settled number (Some o) }; attempts = with_attempt row.attempts (slot_of row.graph.plan number) a }
+    settled_row o a = record { graph = record { plan = row.graph.plan; item = row.graph.item; settled = set row.graph.settled number (Some o) }; attempts = with_attempt row.attempts (slot_of row.graph.plan number) a; all_listed = false }
 
     settles : (v : Verdict) (o : Outcome) (a : Attempt) → AreApart table → a.tries ≡ present.tries → a.listed ≡ present.listed → a.item ≡ None
         → judged (rule_of table f.ignore f.retry) (suc present.tries) (replies (suc present.tries)).ending ≡ v → outcome_of f.name (settled_by v (replies (suc present.tries)).items (suc present.tries) None) ≡ Some o
@@ -193,6 +193,7 @@ module _ (table : TableDecl) (request : ScanRequest) (answers : Answers) (row : 
       after_verdict v = record {
         graph = settled_so row.graph number (outcome_by v (name_at row.graph.plan.functions number) n present);
         attempts = with_attempt row.attempts (slot_of row.graph.plan number) (attempt_by v (rule_at row.graph.plan number) tick present);
+        all_listed = false;
       }
 
       by_verdict : (v : Verdict) → judged (rule_at row.graph.plan number) (suc present.tries) (Some e) ≡ v → RowGoes table request answers row (after_verdict v) []

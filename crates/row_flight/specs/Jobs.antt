@@ -15,7 +15,7 @@ use Rattle.row_flight.specs.Attempts.{listed_attempt}
 use Rattle.row_flight.specs.Flying.{InFlight, Seated, IsOf, Sits, key_at, rows_of}
 use Rattle.row_flight.specs.Hearing.{AllHear, RowHears, RowGoes, Keeps}
 use Rattle.row_flight.specs.Pooled.{seated, IsSound, IsFlight}
-use Rattle.row_flight.specs.Rows.{flight_row, attempt_of, call_of, is_open, is_unlisted, IsRow}
+use Rattle.row_flight.specs.Rows.{flight_row, attempt_of, call_of, is_open, AreListed, IsRow}
 use Rattle.row_flight.specs.declared.frame.CallFrame.{CallFrame}
 use Rattle.row_flight.specs.declared.frame.Wanted.{Wanted}
 use Rattle.row_flight.specs.declared.row.RowCalls.{RowCalls}
@@ -45,10 +45,7 @@ pub record IsJobOf (scan : ℕ) (f : InFlight) (w : Wanted) : Type 0 where
   pub sits : Sits f w.seat row
   pub job : IsRowJob f.frame scan (key_at w.seat) row w
 
--- no call of the row is ready and not listed
-abbrev pub AreListed : RowCalls → Type 0
-AreListed row = (k : ℕ) → k < length row.graph.plan.functions → is_unlisted row k ≡ false
-
+-- no row has a call that is ready and not listed
 abbrev pub IsAllListed : InFlight → Type 0
 IsAllListed f = (place : ℕ) (s : Seated) → slice_get f.rows place ≡ Some s → AreListed s.row
 

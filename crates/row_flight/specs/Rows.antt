@@ -1,5 +1,5 @@
 -- A row in flight with the calls of its functions, by the functions' numbers.
-use Rattle.std.specs.Prelude.{◌≡◌, ◌<◌, ℕ, suc, Bool, true, ◌&&◌, not, List, length, get_or, replicate, set, Option, Some, None}
+use Rattle.std.specs.Prelude.{◌≡◌, ◌<◌, ℕ, suc, Bool, true, false, ◌&&◌, not, List, length, get_or, replicate, set, Option, Some, None}
 use Rattle.sp_value.specs.declared.cell.Cell.{Cell}
 use Rattle.sp_model.specs.declared.call.Call.{Call}
 use Rattle.sp_model.specs.declared.call.Call.TheVariants as call
@@ -47,7 +47,7 @@ item_of row name = (attempt_of row (number_of row.graph.plan.functions name)).it
 
 -- the row of an item of which nothing is known
 abbrev pub begun : Plan → Cell → RowCalls
-begun p item = record { graph = record { plan = p; item = item; settled = replicate (length p.functions) None }; attempts = replicate p.room fresh }
+begun p item = record { graph = record { plan = p; item = item; settled = replicate (length p.functions) None }; attempts = replicate p.room fresh; all_listed = false }
 
 -- a ready function's call with the results of its dependencies
 abbrev pub call_with : List ℕ → List ℕ → Cell → Results → Option Call
@@ -66,6 +66,10 @@ is_open row number = is_ready row.graph number && (attempt_of row number).listed
 abbrev pub is_unlisted : RowCalls → ℕ → Bool
 is_unlisted row number = is_ready row.graph number && not (attempt_of row number).listed
 
+-- no call of the row is ready and not listed
+abbrev pub AreListed : RowCalls → Type 0
+AreListed row = (k : ℕ) → k < length row.graph.plan.functions → is_unlisted row k ≡ false
+
 -- this call is waited for at this attempt, and this piece of it is next
 abbrev pub RowAwaits : List ℕ → RowCalls → ℕ → Call → ℕ → Piece → Type 0
 RowAwaits table row number asked attempt p =
@@ -75,7 +79,7 @@ RowAwaits table row number asked attempt p =
 
 -- the present attempt of a function is listed
 abbrev pub row_lists : RowCalls → ℕ → RowCalls
-row_lists row number = record { graph = row.graph; attempts = with_attempt row.attempts (slot_of row.graph.plan number) (listed_attempt (attempt_of row number)) }
+row_lists row number = record { graph = row.graph; attempts = with_attempt row.attempts (slot_of row.graph.plan number) (listed_attempt (attempt_of row number)); all_listed = row.all_listed }
 
 -- an outcome that is there is settled
 abbrev pub settled_so : Graph → ℕ → Option Outcome → Graph
@@ -95,13 +99,15 @@ row_hears row number p tick =
     record {
       graph = settled_so row.graph number (heard_outcome (rule_at row.graph.plan number) (name_at row.graph.plan.functions number) p a);
       attempts = with_attempt row.attempts (slot_of row.graph.plan number) (heard_attempt (rule_at row.graph.plan number) tick p a);
+      all_listed = false;
     }
 
--- for the model of a flight: each function has its rule and its outcome, and there is an attempt for each slot
+-- for the model of a flight: each function has its rule and its outcome, there is an attempt for each slot, and a row that says so has nothing to list
 pub record IsRow (row : RowCalls) : Type 0 where
   pub room : length row.attempts ≡ row.graph.plan.room
   pub rules : length row.graph.plan.rules ≡ length row.graph.plan.functions
   pub settled : length row.graph.settled ≡ length row.graph.plan.functions
+  pub listed : row.all_listed ≡ true → AreListed row
 
 -- for private clauses: the function of this number has this slot of its own
 pub record IsPlaced (row : RowCalls) (number slot : ℕ) : Type 0 where

@@ -14,9 +14,9 @@ ghost use Rattle.row_flight.specs.Attempts.{IsAttempt};
 ghost use Rattle.row_flight.specs.Dues.{due_of, key_due};
 ghost use Rattle.row_flight.specs.Flying.{InFlight, Seated, Puts, FirstStands, IsOf, Sits, IsAwaited, first_graph, rows_of, heard_at, key_at};
 ghost use Rattle.row_flight.specs.Hearing.{IsPieceOfSeen, AllHear, Keeps};
-ghost use Rattle.row_flight.specs.Jobs.{AreListed, IsAllListed, RowLists, Lists, PoolLists, RowsListed};
+ghost use Rattle.row_flight.specs.Jobs.{IsAllListed, RowLists, Lists, PoolLists, RowsListed};
 ghost use Rattle.row_flight.specs.Pooled.{Rewrites, RowsShown, IsFlight};
-ghost use Rattle.row_flight.specs.Rows.{is_open, row_hears, attempt_of, IsRow, IsPlaced};
+ghost use Rattle.row_flight.specs.Rows.{is_open, row_hears, attempt_of, AreListed, IsRow, IsPlaced};
 ghost use Rattle.row_flight.specs.declared.row.RowCalls.{RowCalls};
 
 use crate::dues::sooner;

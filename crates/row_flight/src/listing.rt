@@ -1,8 +1,8 @@
 ghost use Rattle.std.specs.Prelude.{◌≡◌, true, IfOk, OnOk};
 ghost use Rattle.hydrate_graph.specs.Graphs.{is_ready};
 ghost use Rattle.row_flight.specs.Flying.{key_at};
-ghost use Rattle.row_flight.specs.Jobs.{IsCallOf, RowLists, AreListed};
-ghost use Rattle.row_flight.specs.Rows.{attempt_of, IsRow};
+ghost use Rattle.row_flight.specs.Jobs.{IsCallOf, RowLists};
+ghost use Rattle.row_flight.specs.Rows.{attempt_of, AreListed, IsRow};
 
 use crate::frame::{CallFrame, JobList, Wanted};
 use crate::row::RowCalls;
@@ -67,6 +67,9 @@ impl RowCalls {
         ensures lists { RowLists frame.now seat.scan (key_at seat) self.old self.new into.old into.new }
         ensures all { OnOk result (AreListed self.new) }
     {
+        if self.all_listed {
+            return Ok(());
+        }
         let mut ready = ReadyList::new();
         self.graph.ready(&mut ready);
         for function in ready.as_slice() {
@@ -78,6 +81,7 @@ impl RowCalls {
             };
             self.list_one(alloc, frame, seat, into)?;
         }
+        self.all_listed = true;
         Ok(())
     }
 }

@@ -15,11 +15,13 @@ use sp_value::{Cell, Memory, Text, TryCopy, same_cell, same_members};
 use std::alloc::Global;
 use std::sync::Arc;
 
-/// A row in flight: what its functions gave, and the present attempts of their calls, by the functions' slots.
+/// A row in flight: what its functions gave, and the present attempts of their calls, by the functions' slots. Where `all_listed`, no call
+/// is ready and not listed, so that nobody has to look.
 #[derive(Drop)]
 pub struct RowCalls {
     pub(crate) graph: RowGraph,
     pub(crate) attempts: Attempts,
+    pub(crate) all_listed: bool,
 }
 
 impl RowCalls {
@@ -32,7 +34,11 @@ impl RowCalls {
             return Err(item);
         };
         let graph = RowGraph::begin(alloc, plan, item)?;
-        Ok(RowCalls { graph, attempts })
+        Ok(RowCalls {
+            graph,
+            attempts,
+            all_listed: false,
+        })
     }
 
     /// The slot of a function that a column needs.
@@ -191,6 +197,7 @@ impl RowCalls {
         if let Some(outcome) = outcome {
             let _settled = self.graph.settle(function, outcome);
         }
+        self.all_listed = false;
         Ok(())
     }
 }

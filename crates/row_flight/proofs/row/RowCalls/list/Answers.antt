@@ -1,6 +1,6 @@
 use Rattle.std.proofs.Common.{◌≡◌, ◌<◌, length, get_or, Some, sym, ap, ◌∙◌, arith}
 use Rattle.row_flight.proofs.Naming.{get_within}
-use Rattle.row_flight.proofs.ListedCalls.{lists_nothing, lists_then, ready_at, all_listed, done_more}
+use Rattle.row_flight.proofs.ListedCalls.{lists_nothing, lists_then, ready_at, all_listed, done_more, said_listed}
 use Rattle.row_flight.specs.Flying.{key_at}
 use Rattle.row_flight.specs.Rows.{attempt_of}
 use Rattle.row_flight.proofs.row.RowCalls.list.Goals as goal
@@ -46,3 +46,13 @@ pub returns-clause-all : goal.returns-clause-all
 returns-clause-all c =
     all_listed c.args.self.now c.loop-function.self c.as_slice-function-items.result.now c.loop-function.invariant.lists.graph c.loop-function.invariant.items
     (λ place k l at. c.loop-function.invariant.done place k (omega (arith, l, c.loop-function-test.false)) at)
+
+pub returns-then-self-clause-lists : goal.returns-then-self-clause-lists
+returns-then-self-clause-lists c = lists_nothing c.args.frame.now c.args.seat.scan (key_at c.args.seat) c.args.self.now c.args.into.now c.requires
+
+pub returns-clause-lists : goal.returns-clause-lists
+returns-clause-lists c =
+    said_listed c.args.frame.now c.args.seat.scan (key_at c.args.seat) c.args.self.now c.loop-function.self c.args.into.now c.loop-function.into
+    (all_listed c.args.self.now c.loop-function.self c.as_slice-function-items.result.now c.loop-function.invariant.lists.graph c.loop-function.invariant.items
+    (λ place k l at. c.loop-function.invariant.done place k (omega (arith, l, c.loop-function-test.false)) at))
+    c.loop-function.invariant.lists
