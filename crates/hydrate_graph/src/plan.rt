@@ -265,7 +265,7 @@ impl RowPlan {
     {
         let columns = self.columns.as_slice();
         let sources = self.sources.as_slice();
-        let mut cells = Items::new(alloc);
+        let mut cells = Vec::with_capacity(alloc, columns.len())?;
         for index in 0..columns.len() {
             let cell = match self.reading(outcomes, item, &columns[index], sources[index]) {
                 Reading::Gives(Some(cell)) => cell.copy(alloc)?,
@@ -274,7 +274,7 @@ impl RowPlan {
             };
             cells.push(cell)?;
         }
-        Ok(cells)
+        Ok(Items::from_vec(cells))
     }
 
     /// The result of a function that gave one.
