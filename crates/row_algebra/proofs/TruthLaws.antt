@@ -1,33 +1,32 @@
 -- What is said of each form of condition.
-use Rattle.std.proofs.Common.{◌≡◌, List, map, refl, sym, ap, ◌∙◌}
+use Rattle.std.proofs.Common.{◌≡◌, ℕ, List, map, refl}
 use Rattle.sp_value.specs.declared.cell.Cell.{Cell}
 use Rattle.sp_value.specs.declared.truth.Truth.{Truth}
 use Rattle.sp_value.specs.declared.truth.Truth.TheVariants.{Yes, No, Unknown}
-use Rattle.row_algebra.specs.declared.condition.RowOperand.{RowOperand}
-use Rattle.row_algebra.specs.declared.condition.RowAsked.{RowAsked}
-use Rattle.row_algebra.specs.declared.condition.RowTest.{RowTest, fold-RowTest, fold-roll-RowTest}
-use Rattle.row_algebra.specs.declared.condition.RowTest.TheVariants as t
-use Rattle.row_algebra.specs.declared.condition.RowTest.TheVariants.{rolls-Or, rolls-And, rolls-Not, rolls-Test}
-use Rattle.row_algebra.specs.declared.condition.RowTest.TheOpen.{RowTest-F}
+use Rattle.column_tests.proofs.TestLaws.{fold_or, fold_and, fold_not, fold_asks}
+use Rattle.column_tests.specs.declared.test.Operand.{Operand}
+use Rattle.column_tests.specs.declared.test.Question.{Question}
+use Rattle.column_tests.specs.declared.test.Test.{Test}
+use Rattle.column_tests.specs.declared.test.Test.TheVariants as t
 use Rattle.row_algebra.specs.RowTruth.{truth_of, truth_layer, any_of, all_of, both, either, opposite, asked_truth, value_of}
 
-pub truth_or : (row : List Cell) (xs : List RowTest) → truth_of row (t.Or xs) ≡ any_of (map (truth_of row) xs)
+pub truth_or : (row : List Cell) (xs : List (Test ℕ)) → truth_of row (t.Or xs) ≡ any_of (map (truth_of row) xs)
 unfolding truth_of
-truth_or row xs = ap (fold-RowTest Truth (truth_layer row)) (sym (rolls-Or xs)) ∙ fold-roll-RowTest Truth (truth_layer row) (RowTest-F.Or xs)
+truth_or row xs = fold_or (truth_layer row) xs
 
-pub truth_and : (row : List Cell) (xs : List RowTest) → truth_of row (t.And xs) ≡ all_of (map (truth_of row) xs)
+pub truth_and : (row : List Cell) (xs : List (Test ℕ)) → truth_of row (t.And xs) ≡ all_of (map (truth_of row) xs)
 unfolding truth_of
-truth_and row xs = ap (fold-RowTest Truth (truth_layer row)) (sym (rolls-And xs)) ∙ fold-roll-RowTest Truth (truth_layer row) (RowTest-F.And xs)
+truth_and row xs = fold_and (truth_layer row) xs
 
-pub truth_not : (row : List Cell) (x : RowTest) → truth_of row (t.Not x) ≡ opposite (truth_of row x)
+pub truth_not : (row : List Cell) (x : Test ℕ) → truth_of row (t.Not x) ≡ opposite (truth_of row x)
 unfolding truth_of
-truth_not row x = ap (fold-RowTest Truth (truth_layer row)) (sym (rolls-Not x)) ∙ fold-roll-RowTest Truth (truth_layer row) (RowTest-F.Not x)
+truth_not row x = fold_not (truth_layer row) x
 
-pub truth_test : (row : List Cell) (of : RowOperand) (asked : RowAsked) → truth_of row (t.Test of asked) ≡ asked_truth row (value_of row of) asked
+pub truth_asks : (row : List Cell) (of : Operand ℕ) (question : Question ℕ) → truth_of row (t.Asks of question) ≡ asked_truth row (value_of row of) question
 unfolding truth_of
-truth_test row of asked = ap (fold-RowTest Truth (truth_layer row)) (sym (rolls-Test of asked)) ∙ fold-roll-RowTest Truth (truth_layer row) (RowTest-F.Test of asked)
+truth_asks row of question = fold_asks (truth_layer row) of question
 
-pub ruleset laws = (truth_or, truth_and, truth_not, truth_test)
+pub ruleset laws = (truth_or, truth_and, truth_not, truth_asks)
 
 pub both_assoc : (a b d : Truth) → both (both a b) d ≡ both a (both b d)
 both_assoc No b d = refl

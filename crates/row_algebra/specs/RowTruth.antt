@@ -9,18 +9,18 @@ use Rattle.sp_value.specs.declared.truth.Op.TheVariants as op
 use Rattle.sp_value.specs.declared.truth.Truth.{Truth}
 use Rattle.sp_value.specs.declared.truth.Truth.TheVariants.{Yes, No, Unknown}
 use Rattle.sp_value.specs.Truth.{truth}
-use Rattle.row_algebra.specs.declared.condition.RowOperand.{RowOperand}
-use Rattle.row_algebra.specs.declared.condition.RowOperand.TheVariants as operand
-use Rattle.row_algebra.specs.declared.condition.RowAsked.{RowAsked}
-use Rattle.row_algebra.specs.declared.condition.RowAsked.TheVariants as asked
-use Rattle.row_algebra.specs.declared.condition.RowTest.{RowTest, fold-RowTest}
-use Rattle.row_algebra.specs.declared.condition.RowTest.TheOpen.{RowTest-F}
+use Rattle.column_tests.specs.declared.test.Operand.{Operand}
+use Rattle.column_tests.specs.declared.test.Operand.TheVariants as operand
+use Rattle.column_tests.specs.declared.test.Question.{Question}
+use Rattle.column_tests.specs.declared.test.Question.TheVariants as question
+use Rattle.column_tests.specs.declared.test.Test.{Test, fold-Test}
+use Rattle.column_tests.specs.declared.test.Test.TheOpen.{Test-F}
 
 -- the value in a column; null past the row's end
 abbrev pub cell_at : List Cell → ℕ → Cell
 cell_at row column = unwrap_or (slice_get row column) c.Null
 
-abbrev pub value_of : List Cell → RowOperand → Cell
+abbrev pub value_of : List Cell → Operand ℕ → Cell
 value_of row (operand.Column n) = cell_at row n
 value_of row (operand.Literal x) = x
 
@@ -77,21 +77,21 @@ null_truth x = null_truth_at (out-Cell x)
 abbrev pub in_truth : Cell → List Cell → Truth
 in_truth x list = any_of (map (truth op.Eq x) list)
 
-abbrev pub asked_truth : List Cell → Cell → RowAsked → Truth
-asked_truth row x asked.Truth = own_truth x
-asked_truth row x (asked.Compares o with) = truth o x (value_of row with)
-asked_truth row x (asked.IsIn negated list) = opposite_if negated (in_truth x list)
-asked_truth row x (asked.IsNull negated) = opposite_if negated (null_truth x)
+abbrev pub asked_truth : List Cell → Cell → Question ℕ → Truth
+asked_truth row x question.Truth = own_truth x
+asked_truth row x (question.Compares o with) = truth o x (value_of row with)
+asked_truth row x (question.IsIn negated list) = opposite_if negated (in_truth x list)
+asked_truth row x (question.IsNull negated) = opposite_if negated (null_truth x)
 
-abbrev pub truth_layer : List Cell → RowTest-F Truth → Truth
-truth_layer row (RowTest-F.Or ts) = any_of ts
-truth_layer row (RowTest-F.And ts) = all_of ts
-truth_layer row (RowTest-F.Not t) = opposite t
-truth_layer row (RowTest-F.Test of asked) = asked_truth row (value_of row of) asked
+abbrev pub truth_layer : List Cell → Test-F ℕ Truth → Truth
+truth_layer row (Test-F.Or ts) = any_of ts
+truth_layer row (Test-F.And ts) = all_of ts
+truth_layer row (Test-F.Not t) = opposite t
+truth_layer row (Test-F.Asks of question) = asked_truth row (value_of row of) question
 
 -- the truth of a condition at a row
-unfoldable pub truth_of : List Cell → RowTest → Truth
-truth_of row = fold-RowTest Truth (truth_layer row)
+unfoldable pub truth_of : List Cell → Test ℕ → Truth
+truth_of row = fold-Test ℕ Truth (truth_layer row)
 
 abbrev pub is_yes : Truth → Bool
 is_yes Yes = true
@@ -99,5 +99,5 @@ is_yes No = false
 is_yes Unknown = false
 
 -- every test is yes
-abbrev pub is_kept : List RowTest → List Cell → Bool
+abbrev pub is_kept : List (Test ℕ) → List Cell → Bool
 is_kept tests row = list_all (λ test. is_yes (truth_of row test)) tests

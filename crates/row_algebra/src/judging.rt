@@ -4,7 +4,7 @@ ghost use Rattle.std.specs.Prelude.{◌≡◌, map, filter};
 ghost use Rattle.row_algebra.specs.RowTruth.{cell_at, value_of, opposite, opposite_if, both, either, all_of, any_of, own_truth, null_truth, in_truth, asked_truth, truth_of, is_kept};
 ghost use Rattle.sp_value.specs.Truth.{truth};
 
-use crate::condition::{RowAsked, RowOperand, RowTest};
+use column_tests::{Operand, Question, Test};
 use sp_value::{Cell, Op, Rows, Truth, compare};
 
 /// The value in a column, counted from 0, or what is given for null past the row's end.
@@ -15,13 +15,13 @@ pub(crate) fn cell_at<'a>(row: &'a [Cell], column: u32, null: &'a Cell) -> &'a C
     row.get(column as usize).unwrap_or(null)
 }
 
-fn value_of<'a>(row: &'a [Cell], operand: &'a RowOperand, null: &'a Cell) -> &'a Cell
+fn value_of<'a>(row: &'a [Cell], operand: &'a Operand<u32>, null: &'a Cell) -> &'a Cell
     requires { null.now ≡ Cell.Null }
     ensures { result.now ≡ value_of row.now operand.now }
 {
     match operand {
-        RowOperand::Column(column) => cell_at(row, *column, null),
-        RowOperand::Literal(value) => value,
+        Operand::Column(column) => cell_at(row, *column, null),
+        Operand::Literal(value) => value,
     }
 }
 
@@ -97,47 +97,47 @@ fn in_truth(value: &Cell, list: &[Cell]) -> Truth
     found
 }
 
-fn compared(row: &[Cell], value: &Cell, op: Op, with: &RowOperand) -> Truth
+fn compared(row: &[Cell], value: &Cell, op: Op, with: &Operand<u32>) -> Truth
     ensures { result ≡ truth op value.now (value_of row.now with.now) }
 {
     let null = Cell::Null;
     compare(op, value, value_of(row, with, &null))
 }
 
-fn asked_truth(row: &[Cell], value: &Cell, asked: &RowAsked) -> Truth
-    ensures { result ≡ asked_truth row.now value.now asked.now }
+fn asked_truth(row: &[Cell], value: &Cell, question: &Question<u32>) -> Truth
+    ensures { result ≡ asked_truth row.now value.now question.now }
 {
-    match asked {
-        RowAsked::Truth => own_truth(value),
-        RowAsked::Compares { op, with } => compared(row, value, *op, with),
-        RowAsked::IsIn { negated, list } => opposite_if(*negated, in_truth(value, list.as_slice())),
-        RowAsked::IsNull { negated } => opposite_if(*negated, null_truth(value)),
+    match question {
+        Question::Truth => own_truth(value),
+        Question::Compares { op, with } => compared(row, value, *op, with),
+        Question::IsIn { negated, list } => opposite_if(*negated, in_truth(value, list.as_slice())),
+        Question::IsNull { negated } => opposite_if(*negated, null_truth(value)),
     }
 }
 
-fn test_truth(row: &[Cell], of: &RowOperand, asked: &RowAsked) -> Truth
-    ensures { result ≡ asked_truth row.now (value_of row.now of.now) asked.now }
+fn test_truth(row: &[Cell], of: &Operand<u32>, question: &Question<u32>) -> Truth
+    ensures { result ≡ asked_truth row.now (value_of row.now of.now) question.now }
 {
     let null = Cell::Null;
-    asked_truth(row, value_of(row, of, &null), asked)
+    asked_truth(row, value_of(row, of, &null), question)
 }
 
 /// The truth of a condition at a row.
 #[cycle(truth)]
 #[tactic(auto, using(crate::proofs::TruthLaws::laws))]
-pub fn truth_of(test: &RowTest, row: &[Cell]) -> Truth
+pub fn truth_of(test: &Test<u32>, row: &[Cell]) -> Truth
     ensures { result ≡ truth_of row.now test.now }
 {
     match test {
-        RowTest::Or(members) => any_of(members.as_slice(), row),
-        RowTest::And(members) => all_of(members.as_slice(), row),
-        RowTest::Not(inner) => opposite(truth_of(inner.get(), row)),
-        RowTest::Test { of, asked } => test_truth(row, of, asked),
+        Test::Or(members) => any_of(members.as_slice(), row),
+        Test::And(members) => all_of(members.as_slice(), row),
+        Test::Not(inner) => opposite(truth_of(inner.get(), row)),
+        Test::Asks { of, question } => test_truth(row, of, question),
     }
 }
 
 #[cycle(truth)]
-fn all_of(members: &[RowTest], row: &[Cell]) -> Truth
+fn all_of(members: &[Test<u32>], row: &[Cell]) -> Truth
     ensures { result ≡ all_of (map (truth_of row.now) members.now) }
 {
     let mut found = Truth::Yes;
@@ -151,7 +151,7 @@ fn all_of(members: &[RowTest], row: &[Cell]) -> Truth
 }
 
 #[cycle(truth)]
-fn any_of(members: &[RowTest], row: &[Cell]) -> Truth
+fn any_of(members: &[Test<u32>], row: &[Cell]) -> Truth
     ensures { result ≡ any_of (map (truth_of row.now) members.now) }
 {
     let mut found = Truth::No;
@@ -165,14 +165,14 @@ fn any_of(members: &[RowTest], row: &[Cell]) -> Truth
 }
 
 /// Whether every test is yes.
-fn is_kept(tests: &[RowTest], row: &[Cell]) -> bool
+fn is_kept(tests: &[Test<u32>], row: &[Cell]) -> bool
     ensures { result ≡ is_kept tests.now row.now }
 {
     tests.iter().all(|test| truth_of(test, row) == Truth::Yes)
 }
 
 /// Keeps the rows for which every test is yes, in their order. It takes no memory.
-pub fn keep(rows: &mut Rows, tests: &[RowTest])
+pub fn keep(rows: &mut Rows, tests: &[Test<u32>])
     ensures { rows.new ≡ filter (is_kept tests.now) rows.old }
 {
     rows.retain(|row| is_kept(tests, row.as_slice()));

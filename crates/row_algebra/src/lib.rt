@@ -7,13 +7,11 @@
 //! `specs/RowOrder.antt` and at `specs/RowJoins.antt`.
 #![tactic(auto)]
 
-mod condition;
 mod joining;
 mod judging;
 mod ordering;
 mod showing;
 
-pub use condition::{RowAsked, RowOperand, RowTest};
 pub use joining::join_rows;
 pub use judging::{keep, truth_of};
 pub use ordering::{OrderKey, order_rows};

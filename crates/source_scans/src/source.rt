@@ -1,4 +1,4 @@
-use row_algebra::RowTest;
+use column_tests::Test;
 use sp_model::{Access, KeyDecl, TableDecl};
 use sp_value::{Cell, Cells, Op, Text, Texts};
 use sqlite_items::Items;
@@ -41,5 +41,5 @@ pub struct PlanSource {
     pub conditions: Items<PlanCondition>,
     pub fan: Option<Fan>,
     pub limit: Option<u64>,
-    pub tests: Items<RowTest>,
+    pub tests: Items<Test<u32>>,
 }

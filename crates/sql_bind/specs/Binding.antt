@@ -6,6 +6,12 @@ use Rattle.sp_value.specs.declared.cell.Cell.TheVariants as c
 use Rattle.sp_value.specs.declared.kind.Kind.TheVariants as kind
 use Rattle.sp_model.specs.declared.declaration.ColumnDecl.{ColumnDecl}
 use Rattle.sp_model.specs.declared.settings.Settings.{Settings}
+use Rattle.column_tests.specs.declared.test.Operand.{Operand}
+use Rattle.column_tests.specs.declared.test.Operand.TheVariants as operand
+use Rattle.column_tests.specs.declared.test.Question.{Question}
+use Rattle.column_tests.specs.declared.test.Question.TheVariants as question
+use Rattle.column_tests.specs.declared.test.Test.{Test}
+use Rattle.column_tests.specs.declared.test.Test.TheVariants as test
 use Rattle.sql_grammar.specs.declared.ast.Asked.{Asked}
 use Rattle.sql_grammar.specs.declared.ast.Asked.TheVariants as asked
 use Rattle.sql_grammar.specs.declared.ast.Constant.{Constant}
@@ -15,8 +21,8 @@ use Rattle.sql_grammar.specs.declared.ast.Expr.TheOpen.{Expr-F}
 use Rattle.sql_grammar.specs.declared.ast.Item.{Item}
 use Rattle.sql_grammar.specs.declared.ast.Key.{Key}
 use Rattle.sql_grammar.specs.declared.ast.Name.{Name}
-use Rattle.sql_grammar.specs.declared.ast.Operand.{Operand}
-use Rattle.sql_grammar.specs.declared.ast.Operand.TheVariants as operand
+use Rattle.sql_grammar.specs.declared.ast.Operand.{Operand as Named}
+use Rattle.sql_grammar.specs.declared.ast.Operand.TheVariants as named
 use Rattle.sql_grammar.specs.declared.ast.Ref.{Ref}
 use Rattle.sql_grammar.specs.declared.ast.Shown.{Shown}
 use Rattle.sql_grammar.specs.declared.ast.Shown.TheVariants as shown
@@ -25,14 +31,8 @@ use Rattle.sql_bind.specs.Fits.{fits_of}
 use Rattle.sql_bind.specs.Members.{members_named}
 use Rattle.sql_bind.specs.Sources.{Seen, alias_of}
 use Rattle.sql_bind.specs.declared.bound.Bound.{Bound}
-use Rattle.sql_bind.specs.declared.bound.BoundAsked.{BoundAsked}
-use Rattle.sql_bind.specs.declared.bound.BoundAsked.TheVariants as bound_asked
-use Rattle.sql_bind.specs.declared.bound.BoundExpr.{BoundExpr}
-use Rattle.sql_bind.specs.declared.bound.BoundExpr.TheVariants as bound_expr
 use Rattle.sql_bind.specs.declared.bound.BoundItem.{BoundItem}
 use Rattle.sql_bind.specs.declared.bound.BoundKey.{BoundKey}
-use Rattle.sql_bind.specs.declared.bound.BoundOperand.{BoundOperand}
-use Rattle.sql_bind.specs.declared.bound.BoundOperand.TheVariants as bound_operand
 use Rattle.sql_bind.specs.declared.bound.BoundSource.{BoundSource}
 use Rattle.sql_bind.specs.declared.bound.Column.{Column}
 use Rattle.sql_bind.specs.declared.fitting.Fit.{Fit}
@@ -63,24 +63,24 @@ cell_of (constant.Bool b) = c.Bool b
 cell_of (constant.Int n) = c.Int n
 cell_of (constant.Text t) = c.Text t
 
-abbrev pub operand_of : List Seen → Operand → BoundOperand
-operand_of looked (operand.Ref r) = bound_operand.Column (column_of looked r)
-operand_of looked (operand.Literal l) = bound_operand.Literal (cell_of l.constant)
+abbrev pub operand_of : List Seen → Named → Operand Column
+operand_of looked (named.Ref r) = operand.Column (column_of looked r)
+operand_of looked (named.Literal l) = operand.Literal (cell_of l.constant)
 
-abbrev pub asked_of : List Seen → Asked → BoundAsked
-asked_of looked asked.Truth = bound_asked.Truth
-asked_of looked (asked.Compares op with) = bound_asked.Compares op (operand_of looked with)
-asked_of looked (asked.IsIn negated list) = bound_asked.IsIn negated (map (λ l. cell_of l.constant) list)
-asked_of looked (asked.IsNull negated) = bound_asked.IsNull negated
+abbrev pub question_of : List Seen → Asked → Question Column
+question_of looked asked.Truth = question.Truth
+question_of looked (asked.Compares op with) = question.Compares op (operand_of looked with)
+question_of looked (asked.IsIn negated list) = question.IsIn negated (map (λ l. cell_of l.constant) list)
+question_of looked (asked.IsNull negated) = question.IsNull negated
 
-abbrev pub expr_layer : List Seen → Expr-F BoundExpr → BoundExpr
-expr_layer looked (Expr-F.Or xs) = bound_expr.Or xs
-expr_layer looked (Expr-F.And xs) = bound_expr.And xs
-expr_layer looked (Expr-F.Not x) = bound_expr.Not x
-expr_layer looked (Expr-F.Test of asked) = bound_expr.Test (operand_of looked of) (asked_of looked asked)
+abbrev pub expr_layer : List Seen → Expr-F (Test Column) → Test Column
+expr_layer looked (Expr-F.Or xs) = test.Or xs
+expr_layer looked (Expr-F.And xs) = test.And xs
+expr_layer looked (Expr-F.Not x) = test.Not x
+expr_layer looked (Expr-F.Test of asked) = test.Asks (operand_of looked of) (question_of looked asked)
 
-unfoldable pub expr_of : List Seen → Expr → BoundExpr
-expr_of looked = fold-Expr BoundExpr (expr_layer looked)
+unfoldable pub expr_of : List Seen → Expr → Test Column
+expr_of looked = fold-Expr (Test Column) (expr_layer looked)
 
 -- ---- the statement
 

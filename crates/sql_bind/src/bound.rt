@@ -1,40 +1,15 @@
 // A statement with columns in place of names.
 
+use column_tests::Test;
 use sp_model::TableDecl;
-use sp_value::{Cell, Cells, Kind, Op, Text, Texts};
-use sqlite_items::{Boxed, Items};
+use sp_value::{Kind, Text, Texts};
+use sqlite_items::Items;
 
 /// A column of a source, both counted from 0.
 #[derive(Clone, Copy, Debug, PartialEq, Eq)]
 pub struct Column {
     pub source: u32,
     pub column: u32,
-}
-
-/// What a condition reads.
-#[derive(Drop)]
-pub enum BoundOperand {
-    Column(Column),
-    Literal(Cell),
-}
-
-/// What is asked of a test's first operand.
-#[derive(Drop)]
-pub enum BoundAsked {
-    /// Whether it is true.
-    Truth,
-    Compares { op: Op, with: BoundOperand },
-    IsIn { negated: bool, list: Cells },
-    IsNull { negated: bool },
-}
-
-/// A condition.
-#[derive(Drop)]
-pub enum BoundExpr {
-    Or(Items<BoundExpr>),
-    And(Items<BoundExpr>),
-    Not(Boxed<BoundExpr>),
-    Test { of: BoundOperand, asked: BoundAsked },
 }
 
 /// A source: the connection as the statement names it, the plain connections that it stands for, in the order of the settings, the name by
@@ -45,7 +20,7 @@ pub struct BoundSource {
     pub members: Texts,
     pub alias: Text,
     pub table: TableDecl,
-    pub on: Option<BoundExpr>,
+    pub on: Option<Test<Column>>,
 }
 
 /// A column that is shown, under its name in the answer.
@@ -68,7 +43,7 @@ pub struct BoundKey {
 pub struct Bound {
     pub sources: Items<BoundSource>,
     pub shown: Items<BoundItem>,
-    pub test: Option<BoundExpr>,
+    pub test: Option<Test<Column>>,
     pub order: Items<BoundKey>,
     pub limit: Option<u64>,
 }

@@ -2,14 +2,15 @@
 
 ghost use Rattle.std.specs.Prelude.{◌≡◌, map, IfOk, option_map};
 ghost use Rattle.std.specs.Option.{option_copied};
-ghost use Rattle.sql_bind.specs.declared.bound.BoundExpr.TheVariants as bound_expr;
-ghost use Rattle.sql_bind.specs.Binding.{column_at, one_fit, fit_of, column_of, cell_of, operand_of, asked_of, expr_of};
+ghost use Rattle.column_tests.specs.declared.test.Test.TheVariants as test;
+ghost use Rattle.sql_bind.specs.Binding.{column_at, one_fit, fit_of, column_of, cell_of, operand_of, question_of, expr_of};
 
-use crate::bound::{BoundAsked, BoundExpr, BoundOperand, Column};
+use crate::bound::Column;
 use crate::fitting::{Fit, Fits, fits_of};
 use crate::sources::Seen;
+use column_tests::{Operand, Question, Test};
 use sp_value::{Cell, Cells, Kind, Memory, TryCopy};
-use sql_grammar::{Asked, Constant, Expr, Literal, Operand, Ref};
+use sql_grammar::{Asked, Constant, Expr, Literal, Operand as Named, Ref};
 use sqlite_items::{Boxed, Items};
 use std::alloc::Global;
 
@@ -80,71 +81,76 @@ fn cells_of(alloc: Global, list: &[Literal]) -> Result<Cells, Memory>
     Ok(cells)
 }
 
-fn operand_of(alloc: Global, looked: &[Seen], operand: &Operand) -> Result<BoundOperand, Memory>
+fn operand_of(alloc: Global, looked: &[Seen], operand: &Named) -> Result<Operand<Column>, Memory>
     ensures { IfOk result (λ o. o ≡ operand_of looked.now operand.now) }
 {
     match operand {
-        Operand::Ref(of) => {
+        Named::Ref(of) => {
             let column = column_of(looked, of)?;
-            Ok(BoundOperand::Column(column))
+            Ok(Operand::Column(column))
         }
-        Operand::Literal(literal) => {
+        Named::Literal(literal) => {
             let cell = cell_of(alloc, &literal.constant)?;
-            Ok(BoundOperand::Literal(cell))
+            Ok(Operand::Literal(cell))
         }
     }
 }
 
-fn asked_of(alloc: Global, looked: &[Seen], asked: &Asked) -> Result<BoundAsked, Memory>
-    ensures { IfOk result (λ a. a ≡ asked_of looked.now asked.now) }
+fn question_of(alloc: Global, looked: &[Seen], asked: &Asked) -> Result<Question<Column>, Memory>
+    ensures { IfOk result (λ a. a ≡ question_of looked.now asked.now) }
 {
     match asked {
-        Asked::Truth => Ok(BoundAsked::Truth),
+        Asked::Truth => Ok(Question::Truth),
         Asked::Compares { op, with } => {
             let with = operand_of(alloc, looked, with)?;
-            Ok(BoundAsked::Compares { op: *op, with })
+            Ok(Question::Compares { op: *op, with })
         }
         Asked::IsIn { negated, list } => {
             let list = cells_of(alloc, list.as_slice())?;
-            Ok(BoundAsked::IsIn {
+            Ok(Question::IsIn {
                 negated: *negated,
                 list,
             })
         }
-        Asked::IsNull { negated } => Ok(BoundAsked::IsNull { negated: *negated }),
+        Asked::IsNull { negated } => Ok(Question::IsNull { negated: *negated }),
     }
 }
 
-fn test_of(alloc: Global, looked: &[Seen], of: &Operand, asked: &Asked) -> Result<BoundExpr, Memory>
-    ensures { IfOk result (λ e. e ≡ bound_expr.Test (operand_of looked.now of.now) (asked_of looked.now asked.now)) }
+fn test_of(
+    alloc: Global,
+    looked: &[Seen],
+    of: &Named,
+    asked: &Asked,
+) -> Result<Test<Column>, Memory>
+    ensures { IfOk result (λ e. e ≡ test.Asks (operand_of looked.now of.now) (question_of looked.now asked.now)) }
 {
     let of = operand_of(alloc, looked, of)?;
-    let asked = asked_of(alloc, looked, asked)?;
-    Ok(BoundExpr::Test { of, asked })
+    let question = question_of(alloc, looked, asked)?;
+    Ok(Test::Asks { of, question })
 }
 
-fn negation(alloc: Global, inner: BoundExpr) -> Result<BoundExpr, Memory>
-    ensures { IfOk result (λ e. e ≡ bound_expr.Not inner) }
+fn negation(alloc: Global, inner: Test<Column>) -> Result<Test<Column>, Memory>
+    ensures { IfOk result (λ e. e ≡ test.Not inner) }
 {
     let Ok(inner) = Boxed::new(alloc, inner) else {
         return Err(Memory);
     };
-    Ok(BoundExpr::Not(inner))
+    Ok(Test::Not(inner))
 }
 
 #[cycle(bound)]
 #[tactic(auto, using(crate::proofs::BoundLaws::laws))]
-fn expr_of(alloc: Global, looked: &[Seen], e: &Expr) -> Result<BoundExpr, Memory>
+fn expr_of(alloc: Global, looked: &[Seen], e: &Expr) -> Result<Test<Column>, Memory>
     ensures { IfOk result (λ b. b ≡ expr_of looked.now e.now) }
 {
     match e {
         Expr::Or(members) => {
             let members = exprs_of(alloc, looked, members.as_slice())?;
-            Ok(BoundExpr::Or(members))
+            Ok(Test::Or(members))
         }
         Expr::And(members) => {
             let members = exprs_of(alloc, looked, members.as_slice())?;
-            Ok(BoundExpr::And(members))
+            Ok(Test::And(members))
         }
         Expr::Not(inner) => {
             let inner = expr_of(alloc, looked, inner.get())?;
@@ -155,7 +161,7 @@ fn expr_of(alloc: Global, looked: &[Seen], e: &Expr) -> Result<BoundExpr, Memory
 }
 
 #[cycle(bound)]
-fn exprs_of(alloc: Global, looked: &[Seen], members: &[Expr]) -> Result<Items<BoundExpr>, Memory>
+fn exprs_of(alloc: Global, looked: &[Seen], members: &[Expr]) -> Result<Items<Test<Column>>, Memory>
     ensures { IfOk result (λ bs. bs ≡ map (expr_of looked.now) members.now) }
 {
     let mut found = Items::new(alloc);
@@ -172,7 +178,7 @@ pub(crate) fn condition_of(
     alloc: Global,
     looked: &[Seen],
     condition: Option<&Expr>,
-) -> Result<Option<BoundExpr>, Memory>
+) -> Result<Option<Test<Column>>, Memory>
     ensures { IfOk result (λ b. b ≡ option_map (expr_of looked.now) (option_copied condition.entry)) }
 {
     match condition {

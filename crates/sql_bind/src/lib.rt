@@ -22,9 +22,7 @@ mod walking;
 mod wanted;
 
 pub use binding::bind;
-pub use bound::{
-    Bound, BoundAsked, BoundExpr, BoundItem, BoundKey, BoundOperand, BoundSource, Column,
-};
+pub use bound::{Bound, BoundItem, BoundKey, BoundSource, Column};
 pub use catalog::Catalog;
 pub use fault::BindFault;
 pub use laws::binds_by_its_connections;

@@ -17,18 +17,18 @@ use Rattle.model_laws.proofs.Merging.{left, right}
 use Rattle.source_scans.specs.declared.source.PlanCondition.{PlanCondition}
 use Rattle.source_scans.specs.declared.source.PlanOperand.TheVariants as plan
 use Rattle.sql_bind.specs.declared.bound.Bound.{Bound}
-use Rattle.sql_bind.specs.declared.bound.BoundAsked.{BoundAsked}
-use Rattle.sql_bind.specs.declared.bound.BoundAsked.TheVariants as asked
-use Rattle.sql_bind.specs.declared.bound.BoundExpr.{BoundExpr, fold_out-BoundExpr, ind-BoundExpr, roll-BoundExpr, map-BoundExpr}
-use Rattle.sql_bind.specs.declared.bound.BoundExpr.TheOpen.{BoundExpr-F}
-use Rattle.sql_bind.specs.declared.bound.BoundExpr.TheVariants as e
-use Rattle.sql_bind.specs.declared.bound.BoundExpr.TheVariants.{rolls-Or, rolls-And, rolls-Not, rolls-Test}
-use Rattle.sql_bind.specs.declared.bound.BoundExpr.TheViews.{out-BoundExpr}
-use Rattle.sql_bind.specs.declared.bound.BoundOperand.{BoundOperand}
-use Rattle.sql_bind.specs.declared.bound.BoundOperand.TheVariants as operand
+use Rattle.column_tests.specs.declared.test.Question.{Question}
+use Rattle.column_tests.specs.declared.test.Question.TheVariants as question
+use Rattle.column_tests.specs.declared.test.Test.{Test, fold_out-Test, ind-Test, roll-Test, map-Test}
+use Rattle.column_tests.specs.declared.test.Test.TheOpen.{Test-F}
+use Rattle.column_tests.specs.declared.test.Test.TheVariants as test
+use Rattle.column_tests.specs.declared.test.Test.TheVariants.{rolls-Or, rolls-And, rolls-Not, rolls-Asks}
+use Rattle.column_tests.specs.declared.test.Test.TheViews.{out-Test}
+use Rattle.column_tests.specs.declared.test.Operand.{Operand}
+use Rattle.column_tests.specs.declared.test.Operand.TheVariants as operand
 use Rattle.sql_bind.specs.declared.bound.BoundSource.{BoundSource}
 use Rattle.sql_bind.specs.declared.bound.Column.{Column}
-use Rattle.statement_plan.proofs.ConjunctLaws.{conjuncts_and, conjuncts_or, conjuncts_not, conjuncts_test}
+use Rattle.statement_plan.proofs.ConjunctLaws.{conjuncts_and, conjuncts_or, conjuncts_not, conjuncts_asks}
 use Rattle.statement_plan.proofs.Covering.{column_there}
 use Rattle.statement_plan.proofs.ReadLaws.{reads_and}
 use Rattle.statement_plan.specs.Columns.{columns_of, columns_layer, columns_in, operand_columns, asked_columns, named, column_in, column_name, name_within, names_within, columns_for, place_of}
@@ -58,22 +58,22 @@ all_filter_map p q f m (x ∷ xs) h = one (f x) (m x (left (q x) (list_all q xs)
 
 -- ---- conjuncts read what the statement names
 
-reads : (Column → Bool) → BoundExpr → Bool
+reads : (Column → Bool) → Test Column → Bool
 reads q x = list_all q (columns_of x)
 
-abbrev SameReads : (Column → Bool) → BoundExpr → Type 0
+abbrev SameReads : (Column → Bool) → Test Column → Type 0
 SameReads q x = list_all (λ y. list_all q (columns_of y)) (conjuncts x) ≡ list_all q (columns_of x)
 
 and_true : (b : Bool) → (b && true) ≡ b
 and_true true = refl
 and_true false = refl
 
-alone_reads : (q : Column → Bool) (x : BoundExpr) → conjuncts x ≡ x ∷ [] → SameReads q x
+alone_reads : (q : Column → Bool) (x : Test Column) → conjuncts x ≡ x ∷ [] → SameReads q x
 alone_reads q x h = ap (list_all (λ y. list_all q (columns_of y))) h ∙ and_true (list_all q (columns_of x))
 
 module _ (q : Column → Bool) where
   abbrev WithReads : Type 0
-  WithReads = (x : BoundExpr) × SameReads q x
+  WithReads = (x : Test Column) × SameReads q x
 
   members : (ys : List WithReads) → list_all (λ y. list_all q (columns_of y)) (flat_map conjuncts (map (λ y. y.0) ys)) ≡ list_all q (flat_map (λ cs. cs) (map columns_of (map (λ y. y.0) ys)))
   members [] = refl
@@ -83,19 +83,19 @@ module _ (q : Column → Bool) where
       ∙ ap (λ b. list_all q (columns_of y.0) && b) (members ys)
       ∙ sym (list_all-append q (columns_of y.0) (flat_map (λ cs. cs) (map columns_of (map (λ y. y.0) ys))))
 
-  reads_layer : (y : BoundExpr-F WithReads) → SameReads q (roll-BoundExpr (map-BoundExpr WithReads BoundExpr (λ e. e.0) y))
-  reads_layer (BoundExpr-F.Or ys) = subst (SameReads q) (sym (rolls-Or (map (λ y. y.0) ys))) (alone_reads q (e.Or (map (λ y. y.0) ys)) (conjuncts_or (map (λ y. y.0) ys)))
-  reads_layer (BoundExpr-F.And ys) =
-      let xs : List BoundExpr = map (λ y. y.0) ys in
+  reads_layer : (y : Test-F Column WithReads) → SameReads q (roll-Test Column (map-Test Column WithReads (Test Column) (λ e. e.0) y))
+  reads_layer (Test-F.Or ys) = subst (SameReads q) (sym (rolls-Or (map (λ y. y.0) ys))) (alone_reads q (test.Or (map (λ y. y.0) ys)) (conjuncts_or (map (λ y. y.0) ys)))
+  reads_layer (Test-F.And ys) =
+      let xs : List (Test Column) = map (λ y. y.0) ys in
       subst (SameReads q) (sym (rolls-And xs))
       (ap (list_all (λ y. list_all q (columns_of y))) (conjuncts_and xs) ∙ members ys ∙ sym (ap (list_all q) (reads_and xs)))
-  reads_layer (BoundExpr-F.Not y) = subst (SameReads q) (sym (rolls-Not y.0)) (alone_reads q (e.Not y.0) (conjuncts_not y.0))
-  reads_layer (BoundExpr-F.Test of asked) = subst (SameReads q) (sym (rolls-Test of asked)) (alone_reads q (e.Test of asked) (conjuncts_test of asked))
+  reads_layer (Test-F.Not y) = subst (SameReads q) (sym (rolls-Not y.0)) (alone_reads q (test.Not y.0) (conjuncts_not y.0))
+  reads_layer (Test-F.Asks of question) = subst (SameReads q) (sym (rolls-Asks of question)) (alone_reads q (e.Test of question) (conjuncts_asks of question))
 
-  same_reads : (x : BoundExpr) → SameReads q x
-  same_reads = ind-BoundExpr (SameReads q) (λ x y is. subst (λ z. SameReads q (roll-BoundExpr z)) is (reads_layer y))
+  same_reads : (x : Test Column) → SameReads q x
+  same_reads = ind-Test Column (SameReads q) (λ x y is. subst (λ z. SameReads q (roll-Test Column z)) is (reads_layer y))
 
-  some_reads : (o : Option BoundExpr) → list_all (λ y. list_all q (columns_of y)) (conjuncts_in o) ≡ list_all q (columns_in o)
+  some_reads : (o : Option (Test Column)) → list_all (λ y. list_all q (columns_of y)) (conjuncts_in o) ≡ list_all q (columns_in o)
   some_reads None = refl
   some_reads (Some x) = same_reads x
 
@@ -144,55 +144,55 @@ module _ (sources : List BoundSource) (layout : List (List (List ℕ))) (k : ℕ
   literal_by c o x true h = refl
   literal_by c o x false h = given_map on (λ name. record { column = name; operator = o; operand = plan.Literal x }) (name_within sources k c) ∙ h
 
-  compared_on : (of : BoundOperand) (o : Op) (with : BoundOperand) → list_all covered (operand_columns of ++ operand_columns with) ≡ true → all_given on (compared sources layout k of o with) ≡ true
+  compared_on : (of : Operand Column) (o : Op) (with : Operand Column) → list_all covered (operand_columns of ++ operand_columns with) ≡ true → all_given on (compared sources layout k of o with) ≡ true
   compared_on (operand.Column c) o (operand.Column d) h =
       columns_by c d (same_operator o op.Eq) (left (covered c) (covered d && true) h) (left (covered d) true (right (covered c) (covered d && true) h))
   compared_on (operand.Column c) o (operand.Literal x) h = literal_by c o x (is_null x) (left (covered c) true h)
   compared_on (operand.Literal x) o (operand.Column c) h = literal_by c (turned o) x (is_null x) (left (covered c) true h)
   compared_on (operand.Literal x) o (operand.Literal y) h = refl
 
-  asked_on : (of : BoundOperand) (a : BoundAsked) → list_all covered (operand_columns of ++ asked_columns a) ≡ true → all_given on (asked_condition sources layout k of a) ≡ true
-  asked_on of asked.Truth h = refl
-  asked_on of (asked.Compares o with) h = compared_on of o with h
-  asked_on of (asked.IsIn negated list) h = refl
-  asked_on of (asked.IsNull negated) h = refl
+  asked_on : (of : Operand Column) (a : Question Column) → list_all covered (operand_columns of ++ asked_columns a) ≡ true → all_given on (asked_condition sources layout k of a) ≡ true
+  asked_on of question.Truth h = refl
+  asked_on of (question.Compares o with) h = compared_on of o with h
+  asked_on of (question.IsIn negated list) h = refl
+  asked_on of (question.IsNull negated) h = refl
 
-  layer_on : (x : BoundExpr-F BoundExpr) → list_all covered (columns_layer (map-BoundExpr BoundExpr (List Column) columns_of x)) ≡ true → all_given on (condition_layer sources layout k x) ≡ true
-  layer_on (BoundExpr-F.Or xs) h = refl
-  layer_on (BoundExpr-F.And xs) h = refl
-  layer_on (BoundExpr-F.Not x) h = refl
-  layer_on (BoundExpr-F.Test of asked) h = asked_on of asked h
+  layer_on : (x : Test-F Column (Test Column)) → list_all covered (columns_layer (map-Test Column (Test Column) (List Column) columns_of x)) ≡ true → all_given on (condition_layer sources layout k x) ≡ true
+  layer_on (Test-F.Or xs) h = refl
+  layer_on (Test-F.And xs) h = refl
+  layer_on (Test-F.Not x) h = refl
+  layer_on (Test-F.Asks of question) h = asked_on of question h
 
-  reads_out : (x : BoundExpr) → columns_of x ≡ columns_layer (map-BoundExpr BoundExpr (List Column) columns_of (out-BoundExpr x))
+  reads_out : (x : Test Column) → columns_of x ≡ columns_layer (map-Test Column (Test Column) (List Column) columns_of (out-Test Column x))
   unfolding columns_of
-  reads_out x = fold_out-BoundExpr (List Column) columns_layer x
+  reads_out x = fold_out-Test Column (List Column) columns_layer x
 
-  condition_on : (x : BoundExpr) → list_all covered (columns_of x) ≡ true → all_given on (condition_of sources layout k x) ≡ true
-  condition_on x h = layer_on (out-BoundExpr x) (sym (ap (list_all covered) (reads_out x)) ∙ h)
+  condition_on : (x : Test Column) → list_all covered (columns_of x) ≡ true → all_given on (condition_of sources layout k x) ≡ true
+  condition_on x h = layer_on (out-Test Column x) (sym (ap (list_all covered) (reads_out x)) ∙ h)
 
-  pub conditions_on : (es : List BoundExpr) → list_all (λ y. list_all covered (columns_of y)) es ≡ true → list_all on (conditions_from sources layout k es) ≡ true
+  pub conditions_on : (es : List (Test Column)) → list_all (λ y. list_all covered (columns_of y)) es ≡ true → list_all on (conditions_from sources layout k es) ≡ true
   conditions_on es h = all_filter_map on (λ y. list_all covered (columns_of y)) (condition_of sources layout k) condition_on es h
 
-  listed_in : (of : BoundOperand) (a : BoundAsked) → list_all covered (operand_columns of ++ asked_columns a) ≡ true → all_given (has_name columns) (option_map (λ list. list.0) (asked_list sources k of a)) ≡ true
-  listed_in (operand.Column c) (asked.IsIn false list) h =
+  listed_in : (of : Operand Column) (a : Question Column) → list_all covered (operand_columns of ++ asked_columns a) ≡ true → all_given (has_name columns) (option_map (λ list. list.0) (asked_list sources k of a)) ≡ true
+  listed_in (operand.Column c) (question.IsIn false list) h =
       given_map (has_name columns) (λ list. list.0) (option_map (λ name. (name, list)) (name_within sources k c))
       ∙ given_map (λ p. has_name columns p.0) (λ name. (name, list)) (name_within sources k c) ∙ left (covered c) true h
-  listed_in (operand.Column c) (asked.IsIn true list) h = refl
-  listed_in (operand.Column c) asked.Truth h = refl
-  listed_in (operand.Column c) (asked.Compares o with) h = refl
-  listed_in (operand.Column c) (asked.IsNull negated) h = refl
+  listed_in (operand.Column c) (question.IsIn true list) h = refl
+  listed_in (operand.Column c) question.Truth h = refl
+  listed_in (operand.Column c) (question.Compares o with) h = refl
+  listed_in (operand.Column c) (question.IsNull negated) h = refl
   listed_in (operand.Literal x) a h = refl
 
-  layer_in : (x : BoundExpr-F BoundExpr) → list_all covered (columns_layer (map-BoundExpr BoundExpr (List Column) columns_of x)) ≡ true → all_given (has_name columns) (option_map (λ list. list.0) (list_layer sources k x)) ≡ true
-  layer_in (BoundExpr-F.Or xs) h = refl
-  layer_in (BoundExpr-F.And xs) h = refl
-  layer_in (BoundExpr-F.Not x) h = refl
-  layer_in (BoundExpr-F.Test of asked) h = listed_in of asked h
+  layer_in : (x : Test-F Column (Test Column)) → list_all covered (columns_layer (map-Test Column (Test Column) (List Column) columns_of x)) ≡ true → all_given (has_name columns) (option_map (λ list. list.0) (list_layer sources k x)) ≡ true
+  layer_in (Test-F.Or xs) h = refl
+  layer_in (Test-F.And xs) h = refl
+  layer_in (Test-F.Not x) h = refl
+  layer_in (Test-F.Asks of question) h = listed_in of question h
 
-  column_listed : (x : BoundExpr) → list_all covered (columns_of x) ≡ true → all_given (has_name columns) (listed_column sources k x) ≡ true
-  column_listed x h = layer_in (out-BoundExpr x) (sym (ap (list_all covered) (reads_out x)) ∙ h)
+  column_listed : (x : Test Column) → list_all covered (columns_of x) ≡ true → all_given (has_name columns) (listed_column sources k x) ≡ true
+  column_listed x h = layer_in (out-Test Column x) (sym (ap (list_all covered) (reads_out x)) ∙ h)
 
-  pub listed_on : (es : List BoundExpr) → list_all (λ y. list_all covered (columns_of y)) es ≡ true → list_all (has_name columns) (listed_from sources k es) ≡ true
+  pub listed_on : (es : List (Test Column)) → list_all (λ y. list_all covered (columns_of y)) es ≡ true → list_all (has_name columns) (listed_from sources k es) ≡ true
   listed_on es h = all_filter_map (has_name columns) (λ y. list_all covered (columns_of y)) (listed_column sources k) column_listed es h
 
 -- ---- what is named is covered

@@ -20,8 +20,9 @@ use Rattle.source_scans.specs.Planned.{IsFan, IsPlanned, conditions_of, fan_colu
 use Rattle.source_scans.specs.declared.source.PlanCondition.{PlanCondition}
 use Rattle.source_scans.specs.declared.source.PlanSource.{PlanSource}
 use Rattle.sql_bind.specs.declared.bound.Bound.{Bound}
-use Rattle.sql_bind.specs.declared.bound.BoundExpr.{BoundExpr}
+use Rattle.column_tests.specs.declared.test.Test.{Test}
 use Rattle.sql_bind.specs.declared.bound.BoundSource.{BoundSource}
+use Rattle.sql_bind.specs.declared.bound.Column.{Column}
 use Rattle.statement_plan.proofs.Covering.{again}
 use Rattle.statement_plan.proofs.Meeting.{sent_meet, chosen_is_met, fan_is_sent, fan_is_listed}
 use Rattle.statement_plan.proofs.NamedColumns.{covered, all_read, conditions_on, listed_on, named_are_covered}
@@ -68,7 +69,7 @@ fan_is : (table : TableDecl) (access : Access) (keys : List KeyDecl) (lists : Li
 unfolding fan_for
 fan_is table access keys lists h = ap (λ o. fan_in o lists) h
 
-fan_holds : (keys : List KeyDecl) (columns : List (List ℕ)) (sources : List BoundSource) (k : ℕ) (es : List BoundExpr) (lists : List (List ℕ)) (column : Option (List ℕ)) → fan_of keys lists ≡ column
+fan_holds : (keys : List KeyDecl) (columns : List (List ℕ)) (sources : List BoundSource) (k : ℕ) (es : List (Test Column)) (lists : List (List ℕ)) (column : Option (List ℕ)) → fan_of keys lists ≡ column
     → list_all (has_name columns) lists ≡ true → IsFan keys columns (fan_by sources k es column)
 fan_holds keys columns sources k es lists None e h = tt
 fan_holds keys columns sources k es lists (Some name) e h = record {
@@ -77,7 +78,7 @@ fan_holds keys columns sources k es lists (Some name) e h = record {
   named = fan_is_listed (has_name columns) keys lists name h e;
 }
 
-fan_column_is : (sources : List BoundSource) (k : ℕ) (es : List BoundExpr) (column : Option (List ℕ)) → fan_column (fan_by sources k es column) ≡ column
+fan_column_is : (sources : List BoundSource) (k : ℕ) (es : List (Test Column)) (column : Option (List ℕ)) → fan_column (fan_by sources k es column) ≡ column
 fan_column_is sources k es None = refl
 fan_column_is sources k es (Some name) = refl
 
@@ -85,7 +86,7 @@ fan_column_is sources k es (Some name) = refl
 
 pub source_holds : (b : Bound) (k : ℕ) (s : BoundSource) (p : PlanSource) → slice_get b.sources k ≡ Some s → IsSourceOf b k s p → IsPlanned p
 source_holds b k s p at h =
-    let es : List BoundExpr = conjuncts_of b in
+    let es : List (Test Column) = conjuncts_of b in
     let layout : List (List (List ℕ)) = layout_of b in
     let columns : List (List ℕ) = columns_for b.sources (named b) k s.table in
     let cs : List PlanCondition = conditions_from b.sources layout k es in

@@ -1,30 +1,29 @@
--- The columns that each form of condition reads.
-use Rattle.std.proofs.Common.{◌≡◌, List, ◌++◌, map, sym, ap, ◌∙◌}
+-- The columns that each form of test reads.
+use Rattle.std.proofs.Common.{◌≡◌, List, ◌++◌, map}
 use Rattle.std.proofs.lemmas.List.{append_assoc}
 use Rattle.std.specs.List.{flat_map}
-use Rattle.sql_bind.specs.declared.bound.BoundAsked.{BoundAsked}
-use Rattle.sql_bind.specs.declared.bound.BoundExpr.{BoundExpr, fold-BoundExpr, fold-roll-BoundExpr}
-use Rattle.sql_bind.specs.declared.bound.BoundExpr.TheVariants as e
-use Rattle.sql_bind.specs.declared.bound.BoundExpr.TheVariants.{rolls-Or, rolls-And, rolls-Not, rolls-Test}
-use Rattle.sql_bind.specs.declared.bound.BoundExpr.TheOpen.{BoundExpr-F}
-use Rattle.sql_bind.specs.declared.bound.BoundOperand.{BoundOperand}
+use Rattle.column_tests.proofs.TestLaws.{fold_or, fold_and, fold_not, fold_asks}
+use Rattle.column_tests.specs.declared.test.Operand.{Operand}
+use Rattle.column_tests.specs.declared.test.Question.{Question}
+use Rattle.column_tests.specs.declared.test.Test.{Test}
+use Rattle.column_tests.specs.declared.test.Test.TheVariants as test
 use Rattle.sql_bind.specs.declared.bound.Column.{Column}
 use Rattle.statement_plan.specs.Columns.{columns_of, columns_layer, operand_columns, asked_columns}
 
-pub reads_or : (xs : List BoundExpr) → columns_of (e.Or xs) ≡ flat_map (λ cs. cs) (map columns_of xs)
+pub reads_or : (xs : List (Test Column)) → columns_of (test.Or xs) ≡ flat_map (λ cs. cs) (map columns_of xs)
 unfolding columns_of
-reads_or xs = ap (fold-BoundExpr (List Column) columns_layer) (sym (rolls-Or xs)) ∙ fold-roll-BoundExpr (List Column) columns_layer (BoundExpr-F.Or xs)
+reads_or xs = fold_or columns_layer xs
 
-pub reads_and : (xs : List BoundExpr) → columns_of (e.And xs) ≡ flat_map (λ cs. cs) (map columns_of xs)
+pub reads_and : (xs : List (Test Column)) → columns_of (test.And xs) ≡ flat_map (λ cs. cs) (map columns_of xs)
 unfolding columns_of
-reads_and xs = ap (fold-BoundExpr (List Column) columns_layer) (sym (rolls-And xs)) ∙ fold-roll-BoundExpr (List Column) columns_layer (BoundExpr-F.And xs)
+reads_and xs = fold_and columns_layer xs
 
-pub reads_not : (x : BoundExpr) → columns_of (e.Not x) ≡ columns_of x
+pub reads_not : (x : Test Column) → columns_of (test.Not x) ≡ columns_of x
 unfolding columns_of
-reads_not x = ap (fold-BoundExpr (List Column) columns_layer) (sym (rolls-Not x)) ∙ fold-roll-BoundExpr (List Column) columns_layer (BoundExpr-F.Not x)
+reads_not x = fold_not columns_layer x
 
-pub reads_test : (of : BoundOperand) (asked : BoundAsked) → columns_of (e.Test of asked) ≡ operand_columns of ++ asked_columns asked
+pub reads_asks : (of : Operand Column) (question : Question Column) → columns_of (test.Asks of question) ≡ operand_columns of ++ asked_columns question
 unfolding columns_of
-reads_test of asked = ap (fold-BoundExpr (List Column) columns_layer) (sym (rolls-Test of asked)) ∙ fold-roll-BoundExpr (List Column) columns_layer (BoundExpr-F.Test of asked)
+reads_asks of question = fold_asks columns_layer of question
 
-pub ruleset laws = (reads_or, reads_and, reads_not, reads_test, append_assoc)
+pub ruleset laws = (reads_or, reads_and, reads_not, reads_asks, append_assoc)

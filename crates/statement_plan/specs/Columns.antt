@@ -6,38 +6,38 @@ use Rattle.sp_model.specs.RowOf.{names_of_columns, columns_named}
 use Rattle.sp_model.specs.declared.declaration.ColumnDecl.{ColumnDecl}
 use Rattle.sp_model.specs.declared.declaration.TableDecl.{TableDecl}
 use Rattle.sql_bind.specs.declared.bound.Bound.{Bound}
-use Rattle.sql_bind.specs.declared.bound.BoundAsked.{BoundAsked}
-use Rattle.sql_bind.specs.declared.bound.BoundAsked.TheVariants as asked
-use Rattle.sql_bind.specs.declared.bound.BoundExpr.{BoundExpr, fold-BoundExpr}
-use Rattle.sql_bind.specs.declared.bound.BoundExpr.TheOpen.{BoundExpr-F}
-use Rattle.sql_bind.specs.declared.bound.BoundOperand.{BoundOperand}
-use Rattle.sql_bind.specs.declared.bound.BoundOperand.TheVariants as operand
+use Rattle.column_tests.specs.declared.test.Question.{Question}
+use Rattle.column_tests.specs.declared.test.Question.TheVariants as question
+use Rattle.column_tests.specs.declared.test.Test.{Test, fold-Test}
+use Rattle.column_tests.specs.declared.test.Test.TheOpen.{Test-F}
+use Rattle.column_tests.specs.declared.test.Operand.{Operand}
+use Rattle.column_tests.specs.declared.test.Operand.TheVariants as operand
 use Rattle.sql_bind.specs.declared.bound.BoundSource.{BoundSource}
 use Rattle.sql_bind.specs.declared.bound.Column.{Column}
 
 -- ---- the columns that are named
 
-abbrev pub operand_columns : BoundOperand → List Column
+abbrev pub operand_columns : Operand Column → List Column
 operand_columns (operand.Column c) = c ∷ []
 operand_columns (operand.Literal x) = []
 
-abbrev pub asked_columns : BoundAsked → List Column
-asked_columns asked.Truth = []
-asked_columns (asked.Compares op with) = operand_columns with
-asked_columns (asked.IsIn negated list) = []
-asked_columns (asked.IsNull negated) = []
+abbrev pub asked_columns : Question Column → List Column
+asked_columns question.Truth = []
+asked_columns (question.Compares op with) = operand_columns with
+asked_columns (question.IsIn negated list) = []
+asked_columns (question.IsNull negated) = []
 
-abbrev pub columns_layer : BoundExpr-F (List Column) → List Column
-columns_layer (BoundExpr-F.Or columns) = flat_map (λ cs. cs) columns
-columns_layer (BoundExpr-F.And columns) = flat_map (λ cs. cs) columns
-columns_layer (BoundExpr-F.Not columns) = columns
-columns_layer (BoundExpr-F.Test of asked) = operand_columns of ++ asked_columns asked
+abbrev pub columns_layer : Test-F Column (List Column) → List Column
+columns_layer (Test-F.Or columns) = flat_map (λ cs. cs) columns
+columns_layer (Test-F.And columns) = flat_map (λ cs. cs) columns
+columns_layer (Test-F.Not columns) = columns
+columns_layer (Test-F.Asks of question) = operand_columns of ++ asked_columns question
 
 -- the columns that a condition reads
-unfoldable pub columns_of : BoundExpr → List Column
-columns_of = fold-BoundExpr (List Column) columns_layer
+unfoldable pub columns_of : Test Column → List Column
+columns_of = fold-Test Column (List Column) columns_layer
 
-abbrev pub columns_in : Option BoundExpr → List Column
+abbrev pub columns_in : Option (Test Column) → List Column
 columns_in e = option_map_or columns_of e []
 
 -- what is shown, what every `on` and `where` read, and what the order compares

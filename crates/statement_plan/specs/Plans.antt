@@ -7,7 +7,7 @@ use Rattle.row_algebra.specs.RowTruth.{cell_at}
 use Rattle.source_scans.specs.declared.source.PlanSource.{PlanSource}
 use Rattle.sql_bind.specs.declared.bound.Bound.{Bound}
 use Rattle.sql_bind.specs.declared.bound.BoundSource.{BoundSource}
-use Rattle.sql_bind.specs.declared.bound.BoundExpr.{BoundExpr}
+use Rattle.column_tests.specs.declared.test.Test.{Test}
 use Rattle.sql_bind.specs.declared.bound.Column.{Column}
 use Rattle.statement_plan.specs.Columns.{named, layout_of}
 use Rattle.statement_plan.specs.Conjuncts.{conjuncts_of}
@@ -20,7 +20,7 @@ use Rattle.statement_plan.specs.declared.plan.PlanFault.{PlanFault}
 use Rattle.statement_plan.specs.declared.plan.PlanFault.TheVariants as fault
 
 -- what is said of a statement: the columns that it names, its conjuncts, its sources and their columns
-pub record IsSaid (b : Bound) (columns : List Column) (es : List BoundExpr) (ss : List BoundSource) (columns_by : List (List (List ℕ))) : Type 0 where
+pub record IsSaid (b : Bound) (columns : List Column) (es : List (Test Column)) (ss : List BoundSource) (columns_by : List (List (List ℕ))) : Type 0 where
   pub named : columns ≡ named b
   pub conjuncts : es ≡ conjuncts_of b
   pub sources : ss ≡ b.sources

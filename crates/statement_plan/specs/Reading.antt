@@ -9,13 +9,13 @@ use Rattle.sp_value.specs.declared.truth.Op.TheVariants as op
 use Rattle.sp_model.specs.Keys.{same_operator}
 use Rattle.source_scans.specs.declared.source.PlanCondition.{PlanCondition}
 use Rattle.source_scans.specs.declared.source.PlanOperand.TheVariants as plan
-use Rattle.sql_bind.specs.declared.bound.BoundAsked.{BoundAsked}
-use Rattle.sql_bind.specs.declared.bound.BoundAsked.TheVariants as asked
-use Rattle.sql_bind.specs.declared.bound.BoundExpr.{BoundExpr}
-use Rattle.sql_bind.specs.declared.bound.BoundExpr.TheOpen.{BoundExpr-F}
-use Rattle.sql_bind.specs.declared.bound.BoundExpr.TheViews.{out-BoundExpr}
-use Rattle.sql_bind.specs.declared.bound.BoundOperand.{BoundOperand}
-use Rattle.sql_bind.specs.declared.bound.BoundOperand.TheVariants as operand
+use Rattle.column_tests.specs.declared.test.Question.{Question}
+use Rattle.column_tests.specs.declared.test.Question.TheVariants as question
+use Rattle.column_tests.specs.declared.test.Test.{Test}
+use Rattle.column_tests.specs.declared.test.Test.TheOpen.{Test-F}
+use Rattle.column_tests.specs.declared.test.Test.TheViews.{out-Test}
+use Rattle.column_tests.specs.declared.test.Operand.{Operand}
+use Rattle.column_tests.specs.declared.test.Operand.TheVariants as operand
 use Rattle.sql_bind.specs.declared.bound.BoundSource.{BoundSource}
 use Rattle.sql_bind.specs.declared.bound.Column.{Column}
 use Rattle.statement_plan.specs.Columns.{name_within, place_of}
@@ -53,42 +53,42 @@ module _ (sources : List BoundSource) (layout : List (List (List ℕ))) (k : ℕ
   of_columns o c d = if same_operator o op.Eq then option_or (with_left c d) (with_left d c) else None
 
   -- in either order
-  abbrev pub compared : BoundOperand → Op → BoundOperand → Option PlanCondition
+  abbrev pub compared : Operand Column → Op → Operand Column → Option PlanCondition
   compared (operand.Column c) o (operand.Column d) = of_columns o c d
   compared (operand.Column c) o (operand.Literal x) = with_literal c o x
   compared (operand.Literal x) o (operand.Column c) = with_literal c (turned o) x
   compared (operand.Literal x) o (operand.Literal y) = None
 
-  abbrev pub asked_condition : BoundOperand → BoundAsked → Option PlanCondition
-  asked_condition of (asked.Compares o with) = compared of o with
-  asked_condition of asked.Truth = None
-  asked_condition of (asked.IsIn negated list) = None
-  asked_condition of (asked.IsNull negated) = None
+  abbrev pub asked_condition : Operand Column → Question Column → Option PlanCondition
+  asked_condition of (question.Compares o with) = compared of o with
+  asked_condition of question.Truth = None
+  asked_condition of (question.IsIn negated list) = None
+  asked_condition of (question.IsNull negated) = None
 
-  abbrev pub condition_layer : BoundExpr-F BoundExpr → Option PlanCondition
-  condition_layer (BoundExpr-F.Test of asked) = asked_condition of asked
-  condition_layer (BoundExpr-F.Or es) = None
-  condition_layer (BoundExpr-F.And es) = None
-  condition_layer (BoundExpr-F.Not e) = None
+  abbrev pub condition_layer : Test-F Column (Test Column) → Option PlanCondition
+  condition_layer (Test-F.Asks of question) = asked_condition of question
+  condition_layer (Test-F.Or es) = None
+  condition_layer (Test-F.And es) = None
+  condition_layer (Test-F.Not e) = None
 
   -- the condition on the k-th source that a conjunct is: it compares a column of the source with a literal that isn't null, or equals it with
   -- a column of an earlier source
-  abbrev pub condition_of : BoundExpr → Option PlanCondition
-  condition_of e = condition_layer (out-BoundExpr e)
+  abbrev pub condition_of : Test Column → Option PlanCondition
+  condition_of e = condition_layer (out-Test Column e)
 
 -- ---- lists of values
 
 module _ (sources : List BoundSource) (k : ℕ) where
-  abbrev pub asked_list : BoundOperand → BoundAsked → Option (List ℕ × List Cell)
-  asked_list (operand.Column c) (asked.IsIn false list) = option_map (λ name. (name, list)) (name_within sources k c)
+  abbrev pub asked_list : Operand Column → Question Column → Option (List ℕ × List Cell)
+  asked_list (operand.Column c) (question.IsIn false list) = option_map (λ name. (name, list)) (name_within sources k c)
   asked_list _ _ = None
 
-  abbrev pub list_layer : BoundExpr-F BoundExpr → Option (List ℕ × List Cell)
-  list_layer (BoundExpr-F.Test of asked) = asked_list of asked
-  list_layer (BoundExpr-F.Or es) = None
-  list_layer (BoundExpr-F.And es) = None
-  list_layer (BoundExpr-F.Not e) = None
+  abbrev pub list_layer : Test-F Column (Test Column) → Option (List ℕ × List Cell)
+  list_layer (Test-F.Asks of question) = asked_list of question
+  list_layer (Test-F.Or es) = None
+  list_layer (Test-F.And es) = None
+  list_layer (Test-F.Not e) = None
 
   -- the column of the k-th source whose values a conjunct lists, without `not`, and these values
-  abbrev pub list_of : BoundExpr → Option (List ℕ × List Cell)
-  list_of e = list_layer (out-BoundExpr e)
+  abbrev pub list_of : Test Column → Option (List ℕ × List Cell)
+  list_of e = list_layer (out-Test Column e)

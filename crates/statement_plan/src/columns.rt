@@ -4,10 +4,9 @@ ghost use Rattle.std.specs.Prelude.{◌≡◌, [], ◌∷◌, ◌++◌, map, IfO
 ghost use Rattle.std.specs.List.{flat_map};
 ghost use Rattle.statement_plan.specs.Columns.{operand_columns, asked_columns, columns_of, columns_in, named};
 
+use column_tests::{Operand, Question, Test};
 use sp_value::Memory;
-use sql_bind::{
-    Bound, BoundAsked, BoundExpr, BoundItem, BoundKey, BoundOperand, BoundSource, Column,
-};
+use sql_bind::{Bound, BoundItem, BoundKey, BoundSource, Column};
 use sqlite_items::Items;
 use std::alloc::Global;
 
@@ -20,42 +19,45 @@ fn push(columns: &mut Items<Column>, column: Column) -> Result<(), Memory>
     Ok(())
 }
 
-fn push_operand(columns: &mut Items<Column>, operand: &BoundOperand) -> Result<(), Memory>
+fn push_operand(columns: &mut Items<Column>, operand: &Operand<Column>) -> Result<(), Memory>
     ensures { OnOk result (columns.new ≡ columns.old ++ operand_columns operand.now) }
 {
     match operand {
-        BoundOperand::Column(column) => push(columns, *column),
-        BoundOperand::Literal(_) => Ok(()),
+        Operand::Column(column) => push(columns, *column),
+        Operand::Literal(_) => Ok(()),
     }
 }
 
-fn push_asked(columns: &mut Items<Column>, asked: &BoundAsked) -> Result<(), Memory>
-    ensures { OnOk result (columns.new ≡ columns.old ++ asked_columns asked.now) }
+fn push_asked(columns: &mut Items<Column>, question: &Question<Column>) -> Result<(), Memory>
+    ensures { OnOk result (columns.new ≡ columns.old ++ asked_columns question.now) }
 {
-    match asked {
-        BoundAsked::Compares { op: _, with } => push_operand(columns, with),
+    match question {
+        Question::Compares { op: _, with } => push_operand(columns, with),
         _ => Ok(()),
     }
 }
 
 #[cycle(reads)]
 #[tactic(auto, using(crate::proofs::ReadLaws::laws))]
-pub(crate) fn push_columns(columns: &mut Items<Column>, condition: &BoundExpr) -> Result<(), Memory>
+pub(crate) fn push_columns(
+    columns: &mut Items<Column>,
+    condition: &Test<Column>,
+) -> Result<(), Memory>
     ensures { OnOk result (columns.new ≡ columns.old ++ columns_of condition.now) }
 {
     match condition {
-        BoundExpr::Or(members) => push_all(columns, members.as_slice()),
-        BoundExpr::And(members) => push_all(columns, members.as_slice()),
-        BoundExpr::Not(inner) => push_columns(columns, inner.get()),
-        BoundExpr::Test { of, asked } => {
+        Test::Or(members) => push_all(columns, members.as_slice()),
+        Test::And(members) => push_all(columns, members.as_slice()),
+        Test::Not(inner) => push_columns(columns, inner.get()),
+        Test::Asks { of, question } => {
             push_operand(columns, of)?;
-            push_asked(columns, asked)
+            push_asked(columns, question)
         }
     }
 }
 
 #[cycle(reads)]
-fn push_all(columns: &mut Items<Column>, members: &[BoundExpr]) -> Result<(), Memory>
+fn push_all(columns: &mut Items<Column>, members: &[Test<Column>]) -> Result<(), Memory>
     ensures { OnOk result (columns.new ≡ columns.old ++ flat_map (λ cs. cs) (map columns_of members.now)) }
 {
     for member in members {
@@ -64,7 +66,7 @@ fn push_all(columns: &mut Items<Column>, members: &[BoundExpr]) -> Result<(), Me
     Ok(())
 }
 
-fn push_some(columns: &mut Items<Column>, condition: &Option<BoundExpr>) -> Result<(), Memory>
+fn push_some(columns: &mut Items<Column>, condition: &Option<Test<Column>>) -> Result<(), Memory>
     ensures { OnOk result (columns.new ≡ columns.old ++ columns_in condition.now) }
 {
     match condition {

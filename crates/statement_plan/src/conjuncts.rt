@@ -4,11 +4,12 @@ ghost use Rattle.std.specs.Prelude.{◌≡◌, [], ◌∷◌, ◌++◌, map, IfO
 ghost use Rattle.std.specs.List.{flat_map};
 ghost use Rattle.statement_plan.specs.Conjuncts.{conjuncts, conjuncts_in, conjuncts_of};
 
+use column_tests::Test;
 use sp_value::Memory;
-use sql_bind::{Bound, BoundExpr, BoundSource};
+use sql_bind::{Bound, BoundSource, Column};
 use std::alloc::Global;
 
-fn push<'a>(found: &mut Vec<&'a BoundExpr>, e: &'a BoundExpr) -> Result<(), Memory>
+fn push<'a>(found: &mut Vec<&'a Test<Column>>, e: &'a Test<Column>) -> Result<(), Memory>
     ensures { OnOk result (map (λ e. e.now) found.new.items ≡ map (λ e. e.now) found.old.items ++ e.now ∷ []) }
 {
     found.push(e)?;
@@ -17,17 +18,20 @@ fn push<'a>(found: &mut Vec<&'a BoundExpr>, e: &'a BoundExpr) -> Result<(), Memo
 
 #[cycle(conjuncts)]
 #[tactic(auto, using(crate::proofs::ConjunctLaws::laws))]
-fn push_conjuncts<'a>(found: &mut Vec<&'a BoundExpr>, e: &'a BoundExpr) -> Result<(), Memory>
+fn push_conjuncts<'a>(found: &mut Vec<&'a Test<Column>>, e: &'a Test<Column>) -> Result<(), Memory>
     ensures { OnOk result (map (λ e. e.now) found.new.items ≡ map (λ e. e.now) found.old.items ++ conjuncts e.now) }
 {
     match e {
-        BoundExpr::And(members) => push_members(found, members.as_slice()),
-        BoundExpr::Or(_) | BoundExpr::Not(_) | BoundExpr::Test { .. } => push(found, e),
+        Test::And(members) => push_members(found, members.as_slice()),
+        Test::Or(_) | Test::Not(_) | Test::Asks { .. } => push(found, e),
     }
 }
 
 #[cycle(conjuncts)]
-fn push_members<'a>(found: &mut Vec<&'a BoundExpr>, members: &'a [BoundExpr]) -> Result<(), Memory>
+fn push_members<'a>(
+    found: &mut Vec<&'a Test<Column>>,
+    members: &'a [Test<Column>],
+) -> Result<(), Memory>
     ensures { OnOk result (map (λ e. e.now) found.new.items ≡ map (λ e. e.now) found.old.items ++ flat_map conjuncts members.now) }
 {
     for member in members {
@@ -36,7 +40,10 @@ fn push_members<'a>(found: &mut Vec<&'a BoundExpr>, members: &'a [BoundExpr]) ->
     Ok(())
 }
 
-fn push_some<'a>(found: &mut Vec<&'a BoundExpr>, e: &'a Option<BoundExpr>) -> Result<(), Memory>
+fn push_some<'a>(
+    found: &mut Vec<&'a Test<Column>>,
+    e: &'a Option<Test<Column>>,
+) -> Result<(), Memory>
     ensures { OnOk result (map (λ e. e.now) found.new.items ≡ map (λ e. e.now) found.old.items ++ conjuncts_in e.now) }
 {
     match e {
@@ -46,7 +53,7 @@ fn push_some<'a>(found: &mut Vec<&'a BoundExpr>, e: &'a Option<BoundExpr>) -> Re
 }
 
 fn push_sources<'a>(
-    found: &mut Vec<&'a BoundExpr>,
+    found: &mut Vec<&'a Test<Column>>,
     sources: &'a [BoundSource],
 ) -> Result<(), Memory>
     ensures { OnOk result (map (λ e. e.now) found.new.items ≡ map (λ e. e.now) found.old.items ++ flat_map (λ s. conjuncts_in s.on) sources.now) }
@@ -61,7 +68,7 @@ fn push_sources<'a>(
 pub(crate) fn conjuncts_of<'a>(
     alloc: Global,
     bound: &'a Bound,
-) -> Result<Vec<&'a BoundExpr>, Memory>
+) -> Result<Vec<&'a Test<Column>>, Memory>
     ensures { IfOk result (λ es. map (λ e. e.now) es.items ≡ conjuncts_of bound.now) }
 {
     let mut found = Vec::new(alloc);

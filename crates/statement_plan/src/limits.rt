@@ -8,14 +8,15 @@ ghost use Rattle.statement_plan.specs.Sources.{lists, fanned_by, is_sent_by, are
 
 use crate::reading::{Reading, condition_of, list_of};
 use crate::sources::is_sent_on;
+use column_tests::Test;
 use source_scans::PlanCondition;
 use sp_model::KeyDecl;
 use sp_value::{Memory, Text};
-use sql_bind::{Bound, BoundExpr, BoundSource};
+use sql_bind::{Bound, BoundSource, Column};
 use std::alloc::Global;
 
 /// Whether a conjunct lists values of this column.
-fn lists(of: &Reading, column: &Text, e: &BoundExpr) -> bool
+fn lists(of: &Reading, column: &Text, e: &Test<Column>) -> bool
     ensures { result ≡ lists column.now (list_of of.now.sources.now of.now.source e.now) }
 {
     match list_of(of.sources, of.source, e) {
@@ -33,7 +34,7 @@ fn is_sent_by(keys: &[KeyDecl], condition: &Option<PlanCondition>) -> bool
     }
 }
 
-fn is_fanned(of: &Reading, fan: Option<&Text>, e: &BoundExpr) -> bool
+fn is_fanned(of: &Reading, fan: Option<&Text>, e: &Test<Column>) -> bool
     ensures { result ≡ fanned_by of.now.sources.now of.now.source (option_copied fan.entry) e.now }
 {
     match fan {
@@ -48,7 +49,7 @@ fn are_all_sent(
     keys: &[KeyDecl],
     of: &Reading,
     fan: Option<&Text>,
-    conjuncts: &[&BoundExpr],
+    conjuncts: &[&Test<Column>],
 ) -> Result<bool, Memory>
     ensures { IfOk result (λ all. all ≡ are_all_sent keys.now of.now.sources.now of.now.layout.now of.now.source (option_copied fan.entry) (map (λ e. e.now) conjuncts.now)) }
 {
@@ -82,7 +83,7 @@ pub(crate) fn pushed_limit(
     keys: &[KeyDecl],
     of: &Reading,
     fan: Option<&Text>,
-    conjuncts: &[&BoundExpr],
+    conjuncts: &[&Test<Column>],
 ) -> Result<Option<u64>, Memory>
     requires sources { of.now.sources.now ≡ bound.now.sources }
     requires layout { of.now.layout.now ≡ layout_of bound.now }

@@ -5,9 +5,10 @@ ghost use Rattle.statement_plan.specs.Placed.{placed_operand, placed_asked, plac
 
 use crate::columns::push_columns;
 use crate::layout::place_of;
-use row_algebra::{OrderKey, RowAsked, RowOperand, RowTest};
+use column_tests::{Operand, Question, Test};
+use row_algebra::OrderKey;
 use sp_value::{Memory, Texts, TryCopy};
-use sql_bind::{BoundAsked, BoundExpr, BoundItem, BoundKey, BoundOperand, BoundSource, Column};
+use sql_bind::{BoundItem, BoundKey, BoundSource, Column};
 use sqlite_items::{Boxed, Items};
 use std::alloc::Global;
 
@@ -15,18 +16,18 @@ fn placed_operand(
     alloc: Global,
     sources: &[BoundSource],
     layout: &[Texts],
-    operand: &BoundOperand,
-) -> Result<RowOperand, Memory>
+    operand: &Operand<Column>,
+) -> Result<Operand<u32>, Memory>
     ensures { IfOk result (λ o. o ≡ placed_operand sources.now layout.now operand.now) }
 {
     match operand {
-        BoundOperand::Column(column) => {
+        Operand::Column(column) => {
             let place = place_of(alloc, sources, layout, *column)?;
-            Ok(RowOperand::Column(place))
+            Ok(Operand::Column(place))
         }
-        BoundOperand::Literal(value) => {
+        Operand::Literal(value) => {
             let value = value.copy(alloc)?;
-            Ok(RowOperand::Literal(value))
+            Ok(Operand::Literal(value))
         }
     }
 }
@@ -35,21 +36,21 @@ fn placed_asked(
     alloc: Global,
     sources: &[BoundSource],
     layout: &[Texts],
-    asked: &BoundAsked,
-) -> Result<RowAsked, Memory>
-    ensures { IfOk result (λ a. a ≡ placed_asked sources.now layout.now asked.now) }
+    question: &Question<Column>,
+) -> Result<Question<u32>, Memory>
+    ensures { IfOk result (λ a. a ≡ placed_asked sources.now layout.now question.now) }
 {
-    match asked {
-        BoundAsked::Truth => Ok(RowAsked::Truth),
-        BoundAsked::Compares { op, with } => Ok(RowAsked::Compares {
+    match question {
+        Question::Truth => Ok(Question::Truth),
+        Question::Compares { op, with } => Ok(Question::Compares {
             op: *op,
             with: placed_operand(alloc, sources, layout, with)?,
         }),
-        BoundAsked::IsIn { negated, list } => Ok(RowAsked::IsIn {
+        Question::IsIn { negated, list } => Ok(Question::IsIn {
             negated: *negated,
             list: list.copy(alloc)?,
         }),
-        BoundAsked::IsNull { negated } => Ok(RowAsked::IsNull { negated: *negated }),
+        Question::IsNull { negated } => Ok(Question::IsNull { negated: *negated }),
     }
 }
 
@@ -59,29 +60,29 @@ pub(crate) fn placed_test(
     alloc: Global,
     sources: &[BoundSource],
     layout: &[Texts],
-    condition: &BoundExpr,
-) -> Result<RowTest, Memory>
+    condition: &Test<Column>,
+) -> Result<Test<u32>, Memory>
     ensures { IfOk result (λ t. t ≡ placed_test sources.now layout.now condition.now) }
 {
     match condition {
-        BoundExpr::Or(members) => {
+        Test::Or(members) => {
             let tests = placed_tests(alloc, sources, layout, members.as_slice())?;
-            Ok(RowTest::Or(tests))
+            Ok(Test::Or(tests))
         }
-        BoundExpr::And(members) => {
+        Test::And(members) => {
             let tests = placed_tests(alloc, sources, layout, members.as_slice())?;
-            Ok(RowTest::And(tests))
+            Ok(Test::And(tests))
         }
-        BoundExpr::Not(inner) => {
+        Test::Not(inner) => {
             let test = placed_test(alloc, sources, layout, inner.get())?;
             let Ok(test) = Boxed::new(alloc, test) else {
                 return Err(Memory);
             };
-            Ok(RowTest::Not(test))
+            Ok(Test::Not(test))
         }
-        BoundExpr::Test { of, asked } => Ok(RowTest::Test {
+        Test::Asks { of, question } => Ok(Test::Asks {
             of: placed_operand(alloc, sources, layout, of)?,
-            asked: placed_asked(alloc, sources, layout, asked)?,
+            question: placed_asked(alloc, sources, layout, question)?,
         }),
     }
 }
@@ -91,8 +92,8 @@ fn placed_tests(
     alloc: Global,
     sources: &[BoundSource],
     layout: &[Texts],
-    members: &[BoundExpr],
-) -> Result<Items<RowTest>, Memory>
+    members: &[Test<Column>],
+) -> Result<Items<Test<u32>>, Memory>
     ensures { IfOk result (λ ts. ts ≡ map (placed_test sources.now layout.now) members.now) }
 {
     let mut tests = Items::new(alloc);
@@ -160,7 +161,7 @@ fn last_of(columns: &[Column]) -> u32
 }
 
 /// The source whose rows a conjunct waits for: the greatest that it names, the first where it names none.
-pub(crate) fn last_source(alloc: Global, e: &BoundExpr) -> Result<u32, Memory>
+pub(crate) fn last_source(alloc: Global, e: &Test<Column>) -> Result<u32, Memory>
     ensures { IfOk result (λ n. n ≡ last_source e.now) }
 {
     let mut columns = Items::new(alloc);

@@ -18,16 +18,17 @@ use crate::plan::{Plan, PlanFault};
 use crate::reading::Reading;
 use crate::sources::{conditions_from, fan_by, listed_from, sent_from, subset_for, tests_from};
 use access_choice::{ChoiceFault, choose, fan_for, keys_for};
+use column_tests::Test;
 use source_scans::{PlanSource, conditions_of};
 use sp_model::{Access, Conditions, KeyDecl, TableDecl};
 use sp_value::{Memory, Text, Texts, TryCopy};
-use sql_bind::{Bound, BoundExpr, BoundSource, Column};
+use sql_bind::{Bound, BoundSource, Column};
 use sqlite_items::Items;
 use std::alloc::Global;
 use std::sync::Arc;
 
 /// The conditions on a source, as its keys see them.
-fn asked_for(alloc: Global, of: &Reading, conjuncts: &[&BoundExpr]) -> Result<Conditions, Memory>
+fn asked_for(alloc: Global, of: &Reading, conjuncts: &[&Test<Column>]) -> Result<Conditions, Memory>
     ensures { IfOk result (λ cs. cs ≡ conditions_of (conditions_from of.now.sources.now of.now.layout.now of.now.source (map (λ e. e.now) conjuncts.now))) }
 {
     let conditions = conditions_from(alloc, of, conjuncts)?;
@@ -40,7 +41,7 @@ fn asked_for(alloc: Global, of: &Reading, conjuncts: &[&BoundExpr]) -> Result<Co
 pub(crate) struct Said<'a> {
     pub bound: &'a Bound,
     pub named: &'a [Column],
-    pub conjuncts: &'a [&'a BoundExpr],
+    pub conjuncts: &'a [&'a Test<Column>],
 }
 
 /// A source whose items are asked for in this way.

@@ -5,9 +5,10 @@ ghost use Rattle.sp_value.specs.declared.truth.Op.{Op};
 ghost use Rattle.statement_plan.specs.Reading.{is_null, turned, with_literal, with_left, of_columns, compared, asked_condition, condition_of, asked_list, list_of};
 
 use crate::layout::{name_within, place_of};
+use column_tests::{Operand, Question, Test};
 use source_scans::{PlanCondition, PlanOperand};
 use sp_value::{Cell, Cells, Memory, Op, Text, Texts, TryCopy};
-use sql_bind::{BoundAsked, BoundExpr, BoundOperand, BoundSource, Column};
+use sql_bind::{BoundSource, Column};
 use std::alloc::Global;
 
 fn is_null(value: &Cell) -> bool
@@ -105,36 +106,36 @@ fn of_columns(
 fn compared(
     alloc: Global,
     of: &Reading,
-    first: &BoundOperand,
+    first: &Operand<Column>,
     operator: Op,
-    second: &BoundOperand,
+    second: &Operand<Column>,
 ) -> Result<Option<PlanCondition>, Memory>
     ensures { IfOk result (λ c. c ≡ compared of.now.sources.now of.now.layout.now of.now.source first.now operator second.now) }
 {
     match (first, second) {
-        (BoundOperand::Column(column), BoundOperand::Column(other)) => {
+        (Operand::Column(column), Operand::Column(other)) => {
             of_columns(alloc, of, operator, *column, *other)
         }
-        (BoundOperand::Column(column), BoundOperand::Literal(value)) => {
+        (Operand::Column(column), Operand::Literal(value)) => {
             with_literal(alloc, of, *column, operator, value)
         }
-        (BoundOperand::Literal(value), BoundOperand::Column(column)) => {
+        (Operand::Literal(value), Operand::Column(column)) => {
             with_literal(alloc, of, *column, turned(operator), value)
         }
-        (BoundOperand::Literal(_), BoundOperand::Literal(_)) => Ok(None),
+        (Operand::Literal(_), Operand::Literal(_)) => Ok(None),
     }
 }
 
 fn asked_condition(
     alloc: Global,
     of: &Reading,
-    first: &BoundOperand,
-    asked: &BoundAsked,
+    first: &Operand<Column>,
+    question: &Question<Column>,
 ) -> Result<Option<PlanCondition>, Memory>
-    ensures { IfOk result (λ c. c ≡ asked_condition of.now.sources.now of.now.layout.now of.now.source first.now asked.now) }
+    ensures { IfOk result (λ c. c ≡ asked_condition of.now.sources.now of.now.layout.now of.now.source first.now question.now) }
 {
-    match asked {
-        BoundAsked::Compares { op, with } => compared(alloc, of, first, *op, with),
+    match question {
+        Question::Compares { op, with } => compared(alloc, of, first, *op, with),
         _ => Ok(None),
     }
 }
@@ -143,12 +144,15 @@ fn asked_condition(
 pub(crate) fn condition_of(
     alloc: Global,
     of: &Reading,
-    e: &BoundExpr,
+    e: &Test<Column>,
 ) -> Result<Option<PlanCondition>, Memory>
     ensures { IfOk result (λ c. c ≡ condition_of of.now.sources.now of.now.layout.now of.now.source e.now) }
 {
     match e {
-        BoundExpr::Test { of: first, asked } => asked_condition(alloc, of, first, asked),
+        Test::Asks {
+            of: first,
+            question,
+        } => asked_condition(alloc, of, first, question),
         _ => Ok(None),
     }
 }
@@ -156,15 +160,15 @@ pub(crate) fn condition_of(
 fn asked_list<'a>(
     sources: &'a [BoundSource],
     source: u32,
-    of: &'a BoundOperand,
-    asked: &'a BoundAsked,
+    of: &'a Operand<Column>,
+    question: &'a Question<Column>,
 ) -> Option<(&'a Text, &'a Cells)>
-    ensures { option_map (λ p. (p.0.now, p.1.now)) result ≡ asked_list sources.now source of.now asked.now }
+    ensures { option_map (λ p. (p.0.now, p.1.now)) result ≡ asked_list sources.now source of.now question.now }
 {
-    match (of, asked) {
+    match (of, question) {
         (
-            BoundOperand::Column(column),
-            BoundAsked::IsIn {
+            Operand::Column(column),
+            Question::IsIn {
                 negated: false,
                 list,
             },
@@ -180,12 +184,12 @@ fn asked_list<'a>(
 pub(crate) fn list_of<'a>(
     sources: &'a [BoundSource],
     source: u32,
-    e: &'a BoundExpr,
+    e: &'a Test<Column>,
 ) -> Option<(&'a Text, &'a Cells)>
     ensures { option_map (λ p. (p.0.now, p.1.now)) result ≡ list_of sources.now source e.now }
 {
     match e {
-        BoundExpr::Test { of, asked } => asked_list(sources, source, of, asked),
+        Test::Asks { of, question } => asked_list(sources, source, of, question),
         _ => None,
     }
 }

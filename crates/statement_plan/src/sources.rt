@@ -9,11 +9,11 @@ ghost use Rattle.statement_plan.specs.Sources.{conditions_from, listed_column, l
 
 use crate::placing::{last_source, placed_test};
 use crate::reading::{Reading, condition_of, list_of};
-use row_algebra::RowTest;
+use column_tests::Test;
 use source_scans::{Fan, PlanCondition, distinct_values};
 use sp_model::{Access, KeyDecl, ListDecl, Matching, TableDecl};
 use sp_value::{Cell, Memory, Op, Text, Texts, TryCopy};
-use sql_bind::{BoundExpr, BoundSource};
+use sql_bind::{BoundSource, Column};
 use sqlite_items::Items;
 use std::alloc::Global;
 
@@ -37,7 +37,7 @@ fn push_condition(
 pub(crate) fn conditions_from(
     alloc: Global,
     of: &Reading,
-    conjuncts: &[&BoundExpr],
+    conjuncts: &[&Test<Column>],
 ) -> Result<Items<PlanCondition>, Memory>
     ensures { IfOk result (λ cs. cs ≡ conditions_from of.now.sources.now of.now.layout.now of.now.source (map (λ e. e.now) conjuncts.now)) }
 {
@@ -89,7 +89,7 @@ pub(crate) fn sent_from(
     alloc: Global,
     keys: &[KeyDecl],
     of: &Reading,
-    conjuncts: &[&BoundExpr],
+    conjuncts: &[&Test<Column>],
 ) -> Result<Items<PlanCondition>, Memory>
     ensures { IfOk result (λ cs. cs ≡ sent_from keys.now of.now.sources.now of.now.layout.now of.now.source (map (λ e. e.now) conjuncts.now)) }
 {
@@ -108,7 +108,7 @@ fn push_listed(
     names: &mut Texts,
     sources: &[BoundSource],
     source: u32,
-    e: &BoundExpr,
+    e: &Test<Column>,
 ) -> Result<(), Memory>
     ensures { OnOk result (names.new ≡ names.old ++ option_to_list (listed_column sources.now source e.now)) }
 {
@@ -126,7 +126,7 @@ pub(crate) fn listed_from(
     alloc: Global,
     sources: &[BoundSource],
     source: u32,
-    conjuncts: &[&BoundExpr],
+    conjuncts: &[&Test<Column>],
 ) -> Result<Texts, Memory>
     ensures { IfOk result (λ names. names ≡ listed_from sources.now source (map (λ e. e.now) conjuncts.now)) }
 {
@@ -142,7 +142,7 @@ fn values_under<'a>(
     sources: &'a [BoundSource],
     source: u32,
     column: &Text,
-    conjuncts: &'a [&'a BoundExpr],
+    conjuncts: &'a [&'a Test<Column>],
 ) -> &'a [Cell]
     ensures { result.now ≡ values_under sources.now source column.now (map (λ e. e.now) conjuncts.now) }
 {
@@ -161,7 +161,7 @@ pub(crate) fn fan_by(
     alloc: Global,
     sources: &[BoundSource],
     source: u32,
-    conjuncts: &[&BoundExpr],
+    conjuncts: &[&Test<Column>],
     column: Option<&Text>,
 ) -> Result<Option<Fan>, Memory>
     ensures { IfOk result (λ fan. fan ≡ fan_by sources.now source (map (λ e. e.now) conjuncts.now) (option_copied column.entry)) }
@@ -180,9 +180,9 @@ pub(crate) fn fan_by(
 
 fn push_test(
     alloc: Global,
-    tests: &mut Items<RowTest>,
+    tests: &mut Items<Test<u32>>,
     of: &Reading,
-    e: &BoundExpr,
+    e: &Test<Column>,
 ) -> Result<(), Memory>
     ensures { OnOk result (tests.new ≡ tests.old ++ tests_from of.now.sources.now of.now.layout.now of.now.source (e.now ∷ [])) }
 {
@@ -199,8 +199,8 @@ fn push_test(
 pub(crate) fn tests_from(
     alloc: Global,
     of: &Reading,
-    conjuncts: &[&BoundExpr],
-) -> Result<Items<RowTest>, Memory>
+    conjuncts: &[&Test<Column>],
+) -> Result<Items<Test<u32>>, Memory>
     ensures { IfOk result (λ ts. ts ≡ tests_from of.now.sources.now of.now.layout.now of.now.source (map (λ e. e.now) conjuncts.now)) }
 {
     let mut tests = Items::new(alloc);

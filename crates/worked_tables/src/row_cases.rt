@@ -4,9 +4,10 @@ use crate::sql_cases::statement_at;
 use crate::value_cases::rows_at;
 use crate::words::spelled_rows;
 use case_tables::str_at;
-use row_algebra::{OrderKey, RowAsked, RowOperand, RowTest, keep, limit_rows, order_rows, project};
+use column_tests::{Operand, Question, Test};
+use row_algebra::{OrderKey, keep, limit_rows, order_rows, project};
 use sp_value::{Cell, Cells, TryCopy};
-use sql_parser::{Asked, Constant, Expr, Literal, Operand};
+use sql_parser::{Asked, Constant, Expr, Literal, Operand as Named};
 use sqlite_items::{Boxed, Items};
 use std::alloc::Global;
 
@@ -37,10 +38,10 @@ fn column(name: &str) -> Option<u32> {
     }
 }
 
-fn operand(alloc: Global, operand: &Operand) -> Option<RowOperand> {
+fn operand(alloc: Global, operand: &Named) -> Option<Operand<u32>> {
     match operand {
-        Operand::Ref(of) => Some(RowOperand::Column(column(of.column.text.as_str())?)),
-        Operand::Literal(literal) => Some(RowOperand::Literal(value(alloc, literal)?)),
+        Named::Ref(of) => Some(Operand::Column(column(of.column.text.as_str())?)),
+        Named::Literal(literal) => Some(Operand::Literal(value(alloc, literal)?)),
     }
 }
 
@@ -52,36 +53,36 @@ fn values(alloc: Global, literals: &[Literal]) -> Option<Cells> {
     Some(values)
 }
 
-fn asked(alloc: Global, asked: &Asked) -> Option<RowAsked> {
+fn question(alloc: Global, asked: &Asked) -> Option<Question<u32>> {
     match asked {
-        Asked::Truth => Some(RowAsked::Truth),
-        Asked::Compares { op, with } => Some(RowAsked::Compares {
+        Asked::Truth => Some(Question::Truth),
+        Asked::Compares { op, with } => Some(Question::Compares {
             op: *op,
             with: operand(alloc, with)?,
         }),
-        Asked::IsIn { negated, list } => Some(RowAsked::IsIn {
+        Asked::IsIn { negated, list } => Some(Question::IsIn {
             negated: *negated,
             list: values(alloc, list.as_slice())?,
         }),
-        Asked::IsNull { negated } => Some(RowAsked::IsNull { negated: *negated }),
+        Asked::IsNull { negated } => Some(Question::IsNull { negated: *negated }),
     }
 }
 
 #[cycle(tests)]
-fn test(alloc: Global, condition: &Expr) -> Option<RowTest> {
+fn test(alloc: Global, condition: &Expr) -> Option<Test<u32>> {
     match condition {
-        Expr::Or(members) => Some(RowTest::Or(tests(alloc, members.as_slice())?)),
-        Expr::And(members) => Some(RowTest::And(tests(alloc, members.as_slice())?)),
-        Expr::Not(inner) => Some(RowTest::Not(Boxed::new(alloc, test(alloc, inner.get())?).ok()?)),
-        Expr::Test { of, asked: what } => Some(RowTest::Test {
+        Expr::Or(members) => Some(Test::Or(tests(alloc, members.as_slice())?)),
+        Expr::And(members) => Some(Test::And(tests(alloc, members.as_slice())?)),
+        Expr::Not(inner) => Some(Test::Not(Boxed::new(alloc, test(alloc, inner.get())?).ok()?)),
+        Expr::Test { of, asked } => Some(Test::Asks {
             of: operand(alloc, of)?,
-            asked: asked(alloc, what)?,
+            question: question(alloc, asked)?,
         }),
     }
 }
 
 #[cycle(tests)]
-fn tests(alloc: Global, members: &[Expr]) -> Option<Items<RowTest>> {
+fn tests(alloc: Global, members: &[Expr]) -> Option<Items<Test<u32>>> {
     let mut tests = Items::new(alloc);
     for member in members {
         tests.push(test(alloc, member)?).ok()?;
@@ -90,7 +91,7 @@ fn tests(alloc: Global, members: &[Expr]) -> Option<Items<RowTest>> {
 }
 
 /// The condition of the statement at a place.
-fn condition_at(alloc: Global, given: &[Vec<u8>], place: usize) -> Option<Items<RowTest>> {
+fn condition_at(alloc: Global, given: &[Vec<u8>], place: usize) -> Option<Items<Test<u32>>> {
     let statement = statement_at(alloc, given, place)?;
     let mut tests = Items::new(alloc);
     tests.push(test(alloc, statement.test.as_ref()?)?).ok()?;
