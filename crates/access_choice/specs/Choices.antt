@@ -11,9 +11,9 @@ use Rattle.access_choice.specs.declared.fault.ChoiceFault.{ChoiceFault}
 use Rattle.access_choice.specs.declared.fault.ChoiceFault.TheVariants.{MissingKeys, Memory}
 
 -- the access, where no keys are missing
-abbrev pub accepted : Result Access (List (List ℕ)) → Option Access
-accepted (Ok access) = Some access
-accepted (Err columns) = None
+abbrev pub chosen_access : Result Access (List (List ℕ)) → Option Access
+chosen_access (Ok access) = Some access
+chosen_access (Err columns) = None
 
 abbrev pub missing_in : Option ListDecl → Option GetDecl → List Condition → List (List ℕ) → List (List ℕ)
 missing_in None get conditions lists = missing_of_get get conditions lists

@@ -2,7 +2,7 @@
 
 ghost use Rattle.std.specs.Prelude.{◌≡◌};
 ghost use Rattle.sp_model.specs.Keys.{is_met, with_fan, is_get_met, list_access, choose_list, choose};
-ghost use Rattle.access_choice.specs.Choices.{accepted, IsChoice};
+ghost use Rattle.access_choice.specs.Choices.{chosen_access, IsChoice};
 
 use crate::fault::ChoiceFault;
 use crate::missing::missing;
@@ -41,7 +41,7 @@ fn is_list_met(list: &ListDecl, conditions: &[Condition], lists: &[Text]) -> boo
 }
 
 fn access_of_list(table: &TableDecl, conditions: &[Condition], lists: &[Text]) -> Option<Access>
-    ensures { result ≡ accepted (choose_list table.now.list table.now.get conditions.now lists.now) }
+    ensures { result ≡ chosen_access (choose_list table.now.list table.now.get conditions.now lists.now) }
 {
     match &table.list {
         Some(list) if is_list_met(list, conditions, lists) => Some(list_access(list)),
@@ -51,7 +51,7 @@ fn access_of_list(table: &TableDecl, conditions: &[Condition], lists: &[Text]) -
 
 /// How the items of a table are asked for, `None` where keys are missing. It takes no memory.
 pub fn access_of(table: &TableDecl, conditions: &[Condition], lists: &[Text]) -> Option<Access>
-    ensures { result ≡ accepted (choose table.now conditions.now lists.now) }
+    ensures { result ≡ chosen_access (choose table.now conditions.now lists.now) }
 {
     if is_get_met(&table.get, conditions, lists) {
         return Some(Access::Get);

@@ -4,7 +4,7 @@ use Rattle.std.specs.List.{slice_split, filter, before_first, after_first, posit
 use Rattle.std.proofs.lemmas.List.{take_all, drop_all}
 use Rattle.std.proofs.lemmas.List.Sums.{fails_before_first}
 use Rattle.std.proofs.lemmas.List.Splits.{slice_split_first, slice_split_none, length-slice_split}
-use Rattle.input_lines.specs.Lines.{is_feed, is_blank, without_return, without_empty_rest, lines_of, line_of, blocks_of}
+use Rattle.input_lines.specs.Lines.{is_feed, is_blank, without_return, without_empty_rest, lines_of, line_of, lines_to_answer}
 
 -- the first line of an input, which is not empty
 abbrev pub first : List ℕ → List ℕ
@@ -41,11 +41,11 @@ lines_of-first input some =
       | false ↦ λ e. no_feed input some (grind arith)
     ] refl
 
-pub blocks_of-blank : (input : List ℕ) → 0 < length input → is_blank (first input) ≡ true → blocks_of input ≡ blocks_of (after_first is_feed input)
-blocks_of-blank input some blank = ap (λ l. map line_of (filter (λ line. not (is_blank line)) l)) (lines_of-first input some) ∙ rw blank refl
+pub lines_to_answer-blank : (input : List ℕ) → 0 < length input → is_blank (first input) ≡ true → lines_to_answer input ≡ lines_to_answer (after_first is_feed input)
+lines_to_answer-blank input some blank = ap (λ l. map line_of (filter (λ line. not (is_blank line)) l)) (lines_of-first input some) ∙ rw blank refl
 
-pub blocks_of-line : (input : List ℕ) → 0 < length input → is_blank (first input) ≡ false → blocks_of input ≡ line_of (first input) ∷ blocks_of (after_first is_feed input)
-blocks_of-line input some line = ap (λ l. map line_of (filter (λ line. not (is_blank line)) l)) (lines_of-first input some) ∙ rw line refl
+pub lines_to_answer-line : (input : List ℕ) → 0 < length input → is_blank (first input) ≡ false → lines_to_answer input ≡ line_of (first input) ∷ lines_to_answer (after_first is_feed input)
+lines_to_answer-line input some line = ap (λ l. map line_of (filter (λ line. not (is_blank line)) l)) (lines_of-first input some) ∙ rw line refl
 
 -- what is after the first line is shorter
 pub after-shorter : (input : List ℕ) → 0 < length input → length (after_first is_feed input) < length input

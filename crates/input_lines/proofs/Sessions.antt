@@ -6,7 +6,7 @@ use Rattle.std.proofs.lemmas.List.{length-map}
 use Rattle.std.proofs.lemmas.List.Elements.{All-map}
 use Rattle.spelled_counts.proofs.Ranges.{count_of-range}
 use Rattle.input_lines.specs.declared.line.Line.{Line}
-use Rattle.input_lines.specs.Lines.{is_space, is_blank, begins_with, last_session, session_of, is_clear_cache, session_line, after_mark, without_spaces, marked_line, line_of, lines_of, blocks_of, IsSession, HasSession}
+use Rattle.input_lines.specs.Lines.{is_space, is_blank, begins_with, last_session, session_of, is_clear_cache, session_line, after_mark, without_spaces, marked_line, line_of, lines_of, lines_to_answer, IsSession, HasSession}
 
 -- ---- sessions
 
@@ -31,8 +31,8 @@ line_of-session line =
     let first : IsSession 1 = omega arith in
     choice-session (not (is_utf8 line)) _ _ tt (choice-session (begins_with (codes "@") line) _ _ (marked_line-session (drop 1 line)) (session_line-session 1 line first))
 
-pub blocks_of-sessions : (input : List ℕ) → All HasSession (blocks_of input)
-blocks_of-sessions input = All-map HasSession line_of _ (λ k d h. line_of-session _)
+pub lines_to_answer-sessions : (input : List ℕ) → All HasSession (lines_to_answer input)
+lines_to_answer-sessions input = All-map HasSession line_of _ (λ k d h. line_of-session _)
 
 -- ---- their number
 
@@ -42,7 +42,7 @@ length-filter-le p (line ∷ lines) =
     let later = length-filter-le p lines in
     elim (p line) as (λ b. length (cond b (line ∷ filter p lines) (filter p lines)) ≤ length (line ∷ lines)) [ true ↦ omega arith | false ↦ omega arith ]
 
-pub length-blocks_of : (input : List ℕ) → length (blocks_of input) ≤ length (lines_of input)
-length-blocks_of input =
+pub length-lines_to_answer : (input : List ℕ) → length (lines_to_answer input) ≤ length (lines_of input)
+length-lines_to_answer input =
     let full = λ (line : List ℕ). not (is_blank line) in
     omega (arith, length-map (filter full (lines_of input)) line_of, length-filter-le full (lines_of input))

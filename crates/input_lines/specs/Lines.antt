@@ -81,8 +81,8 @@ HasSession BadForm = Unit {0}
 -- ---- the input
 
 -- what the lines are, without those of spaces and tabs alone
-abbrev pub blocks_of : List ℕ → List Line
-blocks_of input = map line_of (filter (λ line. not (is_blank line)) (lines_of input))
+abbrev pub lines_to_answer : List ℕ → List Line
+lines_to_answer input = map line_of (filter (λ line. not (is_blank line)) (lines_of input))
 
 abbrev pub line_limit : ℕ
 line_limit = 10000

@@ -2,7 +2,7 @@
 
 ghost use Rattle.std.specs.Prelude.{◌≡◌, ◌≤◌, IfOk, IfErr, length, position};
 ghost use Rattle.std.specs.List.{All, before_first, after_first};
-ghost use Rattle.input_lines.specs.Lines.{is_feed, without_return, blocks_of, line_limit, HasSession, HasTooManyLines, IsFaultOf};
+ghost use Rattle.input_lines.specs.Lines.{is_feed, without_return, lines_to_answer, line_limit, HasSession, HasTooManyLines, IsFaultOf};
 
 use crate::form::{is_blank, line_of};
 use crate::line::{Line, LinesFault};
@@ -43,7 +43,7 @@ fn without_return(line: &[u8]) -> &[u8]
 /// an empty rest after the last line feed is no line. A line of spaces and tabs alone gives no block. More than 10,000 lines, blank ones too, are refused.
 pub fn read_lines(alloc: Global, input: &[u8]) -> Result<Items<Line>, LinesFault>
     // Each line that is not blank is read, in order.
-    ensures lines { IfOk result (λ lines. lines ≡ blocks_of input.now) }
+    ensures lines { IfOk result (λ lines. lines ≡ lines_to_answer input.now) }
     // An input of too many lines is refused.
     ensures within { IfOk result (λ lines. ¬ (HasTooManyLines input.now)) }
     // Each session is from 1 to 64, and there are at most 10,000 blocks.

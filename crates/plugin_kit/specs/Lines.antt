@@ -4,13 +4,13 @@ use Rattle.sp_world.specs.RequestLines.{request_of}
 use Rattle.sp_world.specs.declared.line.LineFault.{LineFault}
 use Rattle.sp_world.specs.declared.line.Request.{Request}
 
-abbrev pub accepted : Result Request LineFault → Option Request
-accepted (Ok request) = Some request
-accepted (Err fault) = None
+abbrev pub request_read : Result Request LineFault → Option Request
+request_read (Ok request) = Some request
+request_read (Err fault) = None
 
 -- the request that a line is, if it has at most 68,157,440 bytes and is one
 unfoldable pub request_in : List ℕ → Option Request
-request_in line = if nat_le (length line) 68157440 then accepted (request_of line) else None
+request_in line = if nat_le (length line) 68157440 then request_read (request_of line) else None
 
 -- of a line that is too long its first 68,157,441 bytes, else the line
 unfoldable pub kept : List ℕ → List ℕ

@@ -16,7 +16,7 @@ use Rattle.sp_world.specs.Kept.{IsKeptForm}
 use Rattle.sp_world.specs.declared.kept_scan.KeptScan.{KeptScan}
 use Rattle.model_laws.proofs.FewerColumns.{cell_in}
 use Rattle.model_laws.proofs.Merging.{left, right}
-use Rattle.query_cache.specs.Places.{place_of, cell_at, cells_at, placed, is_true_at, are_true_at, rows_by_places}
+use Rattle.query_cache.specs.Places.{place_of, cell_at, cells_at, placed_condition, is_true_at, are_true_at, rows_by_places}
 use Rattle.query_cache.specs.Serving.{cell_under, is_true_of, are_true_of, in_names, served_rows}
 
 -- ---- lists
@@ -75,11 +75,11 @@ cell_there (n ∷ ns) (x ∷ xs) name e = cell_by n ns x xs name (cell_there ns 
 -- rows of one cell for each name, by places and by names
 pub by_places : (names wanted : List (List ℕ)) (conditions : List Condition) (rows : List (List Cell))
     → ((k : ℕ) (row : List Cell) → slice_get rows k ≡ Some row → length row ≡ length names)
-    → map (cells_at (map (place_of names) wanted)) (filter (are_true_at (map (placed names) conditions)) rows) ≡ map (in_names names wanted) (filter (are_true_of conditions names) rows)
+    → map (cells_at (map (place_of names) wanted)) (filter (are_true_at (map (placed_condition names) conditions)) rows) ≡ map (in_names names wanted) (filter (are_true_of conditions names) rows)
 by_places names wanted conditions rows form =
     rows_same _ _ _ _ rows (λ k row h. (
       map_map (cell_at row) (place_of names) wanted ∙ map_same _ _ (λ name. cell_there names row name (form k row h)) wanted,
-      all_map (is_true_at row) (placed names) conditions
+      all_map (is_true_at row) (placed_condition names) conditions
           ∙ all_same _ _ (λ (condition : Condition). ap (λ cell. is_yes (truth condition.operator cell condition.value)) (cell_there names row condition.column (form k row h))) conditions,
     ))
 

@@ -21,8 +21,8 @@ cell_at row place = slice_index_or row place c.Null
 abbrev pub cells_at : List ℕ → List Cell → List Cell
 cells_at places row = map (cell_at row) places
 
-abbrev pub placed : List (List ℕ) → Condition → PlacedCondition
-placed names condition = record { place = place_of names condition.column; operator = condition.operator; value = condition.value }
+abbrev pub placed_condition : List (List ℕ) → Condition → PlacedCondition
+placed_condition names condition = record { place = place_of names condition.column; operator = condition.operator; value = condition.value }
 
 abbrev pub is_true_at : List Cell → PlacedCondition → Bool
 is_true_at row condition = is_yes (truth condition.operator (cell_at row condition.place) condition.value)
@@ -33,4 +33,4 @@ are_true_at conditions row = list_all (is_true_at row) conditions
 -- the rows for which the request's further conditions are true, in its columns, up to its limit
 abbrev pub rows_by_places : ScanRequest → List (List Cell) → ScanRequest → List (List Cell)
 rows_by_places kept rows request =
-    cut request.limit (map (cells_at (map (place_of kept.columns) request.columns)) (filter (are_true_at (map (placed kept.columns) (further kept request))) rows))
+    cut request.limit (map (cells_at (map (place_of kept.columns) request.columns)) (filter (are_true_at (map (placed_condition kept.columns) (further kept request))) rows))

@@ -3,7 +3,7 @@
 ghost use Rattle.std.specs.Prelude.{◌≡◌, map, filter, not, bytes_eq, IfOk};
 ghost use Rattle.std.specs.List.{list_all, position_or_len};
 ghost use Rattle.sp_model.specs.Covers.{is_among, further};
-ghost use Rattle.query_cache.specs.Places.{place_of, cell_at, cells_at, placed, is_true_at, are_true_at};
+ghost use Rattle.query_cache.specs.Places.{place_of, cell_at, cells_at, placed_condition, is_true_at, are_true_at};
 
 use crate::alike::is_among;
 use sp_model::{Condition, ScanRequest};
@@ -45,8 +45,12 @@ pub(crate) fn places_of(
     Ok(places)
 }
 
-fn placed(alloc: Global, names: &[Text], condition: &Condition) -> Result<PlacedCondition, Memory>
-    ensures { IfOk result (λ c. c ≡ placed names.now condition.now) }
+fn placed_condition(
+    alloc: Global,
+    names: &[Text],
+    condition: &Condition,
+) -> Result<PlacedCondition, Memory>
+    ensures { IfOk result (λ c. c ≡ placed_condition names.now condition.now) }
 {
     let value = condition.value.copy(alloc)?;
     Ok(PlacedCondition {
@@ -62,12 +66,12 @@ pub(crate) fn further_conditions(
     kept: &ScanRequest,
     request: &ScanRequest,
 ) -> Result<Vec<PlacedCondition>, Memory>
-    ensures { IfOk result (λ found. found.items ≡ map (placed kept.now.columns) (further kept.now request.now)) }
+    ensures { IfOk result (λ found. found.items ≡ map (placed_condition kept.now.columns) (further kept.now request.now)) }
 {
     let mut found = Vec::new(alloc);
     for condition in request.conditions.as_slice() {
         if !is_among(kept.conditions.as_slice(), condition) {
-            let condition = placed(alloc, kept.columns.as_slice(), condition)?;
+            let condition = placed_condition(alloc, kept.columns.as_slice(), condition)?;
             found.push(condition)?;
         }
     }

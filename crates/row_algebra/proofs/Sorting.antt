@@ -3,7 +3,7 @@ use Rattle.std.proofs.Common.{◌≡◌, suc, Bool, true, false, not, ◌&&◌, 
 use Rattle.std.specs.List.{AllByRecursion}
 use Rattle.std.specs.List.Sorted.{IsSortedBy, IsStableBy, ties}
 use Rattle.std.specs.Cmp.{IsStrictWeakOrder}
-use Rattle.row_algebra.specs.RowOrder.{placed, sorted_by}
+use Rattle.row_algebra.specs.RowOrder.{inserted, sorted_by}
 
 weaker : {X : Type 0} (P Q : X → Type 0) → ((x : X) → P x → Q x) → (xs : List X) → AllByRecursion P xs → AllByRecursion Q xs
 weaker P Q h [] all = tt
@@ -78,22 +78,22 @@ module _ {X : Type 0} (lt : X → X → Bool) (o : IsStrictWeakOrder lt) where
 
   -- ---- the definition
 
-  all_placed : (P : X → Type 0) (x : X) (ys : List X) → P x → AllByRecursion P ys → AllByRecursion P (placed lt x ys)
-  all_placed P x [] h all = (h, tt)
-  all_placed P x (y ∷ ys) h all =
-      elim (lt y x) as (λ b. AllByRecursion P (cond b (y ∷ placed lt x ys) (x ∷ y ∷ ys))) [ true ↦ (all.0, all_placed P x ys h all.1) | false ↦ (h, all) ]
+  all_inserted : (P : X → Type 0) (x : X) (ys : List X) → P x → AllByRecursion P ys → AllByRecursion P (inserted lt x ys)
+  all_inserted P x [] h all = (h, tt)
+  all_inserted P x (y ∷ ys) h all =
+      elim (lt y x) as (λ b. AllByRecursion P (cond b (y ∷ inserted lt x ys) (x ∷ y ∷ ys))) [ true ↦ (all.0, all_inserted P x ys h all.1) | false ↦ (h, all) ]
 
-  rises_placed : (x : X) (ys : List X) → Rises ys → Rises (placed lt x ys)
-  rises_placed x [] up = (tt, tt)
-  rises_placed x (y ∷ ys) up = go (lt y x) refl (rises_placed x ys up.1)
+  rises_inserted : (x : X) (ys : List X) → Rises ys → Rises (inserted lt x ys)
+  rises_inserted x [] up = (tt, tt)
+  rises_inserted x (y ∷ ys) up = go (lt y x) refl (rises_inserted x ys up.1)
     where
-      go : (b : Bool) → lt y x ≡ b → Rises (placed lt x ys) → Rises (cond b (y ∷ placed lt x ys) (x ∷ y ∷ ys))
-      go true e more = (all_placed (λ z. lt z y ≡ false) x ys (o.one_way y x e) up.0, more)
+      go : (b : Bool) → lt y x ≡ b → Rises (inserted lt x ys) → Rises (cond b (y ∷ inserted lt x ys) (x ∷ y ∷ ys))
+      go true e more = (all_inserted (λ z. lt z y ≡ false) x ys (o.one_way y x e) up.0, more)
       go false e more = ((e, weaker (λ z. lt z y ≡ false) (λ z. lt z x ≡ false) (λ z h. o.chain z y x h e) ys up.0), up)
 
   rises_sorted : (xs : List X) → Rises (sorted_by lt xs)
   rises_sorted [] = tt
-  rises_sorted (x ∷ xs) = rises_placed x (sorted_by lt xs) (rises_sorted xs)
+  rises_sorted (x ∷ xs) = rises_inserted x (sorted_by lt xs) (rises_sorted xs)
 
   -- what two tests of ties say
   left_of : (a b : Bool) → not a && not b ≡ true → a ≡ false
@@ -109,9 +109,9 @@ module _ {X : Type 0} (lt : X → X → Bool) (o : IsStrictWeakOrder lt) where
   apart : (t x y : X) → ties lt t x ≡ true → ties lt t y ≡ true → lt y x ≡ false
   apart t x y p q = o.chain y t x (right_of (lt t y) (lt y t) q) (left_of (lt t x) (lt x t) p)
 
-  class_placed : (t x : X) (ys : List X) → filter (ties lt t) (placed lt x ys) ≡ filter (ties lt t) (x ∷ ys)
-  class_placed t x [] = refl
-  class_placed t x (y ∷ ys) = go (lt y x) refl (class_placed t x ys)
+  class_inserted : (t x : X) (ys : List X) → filter (ties lt t) (inserted lt x ys) ≡ filter (ties lt t) (x ∷ ys)
+  class_inserted t x [] = refl
+  class_inserted t x (y ∷ ys) = go (lt y x) refl (class_inserted t x ys)
     where
       two : (a b : Bool) → ties lt t x ≡ a → ties lt t y ≡ b → lt y x ≡ true → (rest : List X) → rest ≡ cond a (x ∷ filter (ties lt t) ys) (filter (ties lt t) ys)
           → cond b (y ∷ rest) rest ≡ cond a (x ∷ cond b (y ∷ filter (ties lt t) ys) (filter (ties lt t) ys)) (cond b (y ∷ filter (ties lt t) ys) (filter (ties lt t) ys))
@@ -120,13 +120,13 @@ module _ {X : Type 0} (lt : X → X → Bool) (o : IsStrictWeakOrder lt) where
       two false true p q e rest more = ap (λ l. y ∷ l) more
       two false false p q e rest more = more
 
-      go : (b : Bool) → lt y x ≡ b → filter (ties lt t) (placed lt x ys) ≡ filter (ties lt t) (x ∷ ys) → filter (ties lt t) (cond b (y ∷ placed lt x ys) (x ∷ y ∷ ys)) ≡ filter (ties lt t) (x ∷ y ∷ ys)
-      go true e more = two (ties lt t x) (ties lt t y) refl refl e (filter (ties lt t) (placed lt x ys)) more
+      go : (b : Bool) → lt y x ≡ b → filter (ties lt t) (inserted lt x ys) ≡ filter (ties lt t) (x ∷ ys) → filter (ties lt t) (cond b (y ∷ inserted lt x ys) (x ∷ y ∷ ys)) ≡ filter (ties lt t) (x ∷ y ∷ ys)
+      go true e more = two (ties lt t x) (ties lt t y) refl refl e (filter (ties lt t) (inserted lt x ys)) more
       go false e more = refl
 
   class_sorted : (t : X) (xs : List X) → filter (ties lt t) (sorted_by lt xs) ≡ filter (ties lt t) xs
   class_sorted t [] = refl
-  class_sorted t (x ∷ xs) = class_placed t x (sorted_by lt xs) ∙ ap (λ l. cond (ties lt t x) (x ∷ l) l) (class_sorted t xs)
+  class_sorted t (x ∷ xs) = class_inserted t x (sorted_by lt xs) ∙ ap (λ l. cond (ties lt t x) (x ∷ l) l) (class_sorted t xs)
 
   pub sorted_is : (xs ys : List X) → IsSortedBy lt ys → IsStableBy lt xs ys → ys ≡ sorted_by lt xs
   sorted_is xs ys up stable = one_list ys (sorted_by lt xs) (rises_of_sorted ys up) (rises_sorted xs) (λ t. stable t ∙ sym (class_sorted t xs))

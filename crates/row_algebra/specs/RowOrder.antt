@@ -47,14 +47,14 @@ abbrev pub comes_before : List OrderKey → List Cell → List Cell → Bool
 comes_before keys left right = is_lt (row_order keys left right)
 
 -- before the first row that does not come before this one
-abbrev pub placed : {X : Type 0} → (X → X → Bool) → X → List X → List X
-placed before x [] = x ∷ []
-placed before x (y ∷ ys) = if before y x then y ∷ placed before x ys else x ∷ y ∷ ys
+abbrev pub inserted : {X : Type 0} → (X → X → Bool) → X → List X → List X
+inserted before x [] = x ∷ []
+inserted before x (y ∷ ys) = if before y x then y ∷ inserted before x ys else x ∷ y ∷ ys
 
 -- the rows in order, each placed before the later rows that it ties with
 abbrev pub sorted_by : {X : Type 0} → (X → X → Bool) → List X → List X
 sorted_by before [] = []
-sorted_by before (x ∷ xs) = placed before x (sorted_by before xs)
+sorted_by before (x ∷ xs) = inserted before x (sorted_by before xs)
 
 abbrev pub ordered : List OrderKey → List (List Cell) → List (List Cell)
 ordered keys rows = sorted_by (comes_before keys) rows

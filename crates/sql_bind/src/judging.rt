@@ -10,9 +10,9 @@ use crate::sources::{alias_of, unless};
 use sp_value::Kind;
 use sql_grammar::{Asked, Constant, Literal, Operand, Ref, Source};
 
-/// What is asked of each part of a statement.
+/// What is looked for in each part of a statement.
 #[derive(Clone, Copy)]
-pub(crate) enum Rule {
+pub(crate) enum Refusal {
     UnknownColumn,
     Ambiguous,
     TypeMismatch,

@@ -7,7 +7,7 @@ use Rattle.sp_model.specs.declared.settings.Settings.{Settings}
 use Rattle.sp_outside.specs.Causes.{Rose}
 use Rattle.sp_outside.specs.Files.{FileTold}
 use Rattle.sp_outside.specs.Writing.{GrewByPrefix}
-use Rattle.input_lines.specs.Lines.{blocks_of}
+use Rattle.input_lines.specs.Lines.{lines_to_answer}
 use Rattle.settings_text.specs.Reading.{read_all_settings}
 use Rattle.sql_bind.specs.Known.{Known, declaration_of}
 use Rattle.answer_text.specs.declared.answer.Form.{Form}
@@ -44,7 +44,7 @@ pub record HasExplained (known : Known) (status : Status) (left left_after held 
   pub input : List ℕ
   pub read : IsInput left left_after input
   pub blocks : List Block
-  pub are : AreBlocks known.settings (declaration_of known) (blocks_of input) blocks
+  pub are : AreBlocks known.settings (declaration_of known) (lines_to_answer input) blocks
   pub written : IsExplanationWritten status blocks held held_after
   pub silent : notes_after ≡ notes
 

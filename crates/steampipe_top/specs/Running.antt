@@ -8,7 +8,7 @@ use Rattle.sp_model.specs.declared.settings.Settings.{Settings}
 use Rattle.sp_outside.specs.Causes.{Rose}
 use Rattle.sp_outside.specs.Files.{FileTold}
 use Rattle.sp_outside.specs.Writing.{GrewByPrefix}
-use Rattle.input_lines.specs.Lines.{blocks_of}
+use Rattle.input_lines.specs.Lines.{lines_to_answer}
 use Rattle.run_lines.specs.Blocks.{AreAnswers, AreByText, AreTrulyNoted, BeginInTurn, AreOver, CameBack, with_child}
 use Rattle.run_lines.specs.declared.block.Block.{Block}
 use Rattle.statement_run.specs.declared.answer.AnswerEnd.{AnswerEnd}
@@ -142,10 +142,10 @@ pub record HasAnswered {Kid : Type 0} (faulted gives : Kid → ℕ) (own : Kid �
   pub input : List ℕ
   pub read : IsInput before.left after.left input
   pub blocks : List Block
-  pub defined : IsTrue tells → SubsetKeysFilter book → AreAnswers book settings (blocks_of input) blocks
+  pub defined : IsTrue tells → SubsetKeysFilter book → AreAnswers book settings (lines_to_answer input) blocks
   pub noted : IsTrue tells → AreTrulyNoted book settings.options blocks
-  pub text : AreByText settings (blocks_of input) blocks
-  pub turns : (last : ℕ) × BeginInTurn 0 last (blocks_of input) blocks
+  pub text : AreByText settings (lines_to_answer input) blocks
+  pub turns : (last : ℕ) × BeginInTurn 0 last (lines_to_answer input) blocks
   pub over : AreOver faulted gives own (IsTrue tells × KeepsForms book) 0 (with_child settings.connections) before.back after.back blocks
   pub written : IsWritten form status blocks before.held after.held before.notes after.notes
 

@@ -3,7 +3,7 @@
 ghost use Rattle.std.specs.Prelude.{◌≡◌, ◌≤◌, List, ℕ, All, Ok, Some, IfOk, IfErr, codes};
 ghost use Rattle.serde_json.specs.View.{view};
 ghost use Rattle.decl_words.specs.Sound.{IsSound};
-ghost use Rattle.input_lines.specs.Lines.{blocks_of};
+ghost use Rattle.input_lines.specs.Lines.{lines_to_answer};
 ghost use Rattle.settings_text.specs.Reading.{read_settings, read_all_settings};
 ghost use Rattle.statement_run.specs.Settings.{CanRun};
 ghost use Rattle.sp_outside.specs.Files.{IsFile};
@@ -160,7 +160,7 @@ pub(crate) fn declaration_of<F: Shelf>(
 
 /// The lines of the whole input.
 pub(crate) fn lines_of<I: Source>(alloc: Global, input: &mut I) -> Result<Items<Line>, InputEnd>
-    ensures ok { IfOk result (λ lines. (text : List ℕ) × IsInput (I.left input.old) (I.left input.new) text × (lines ≡ blocks_of text)) }
+    ensures ok { IfOk result (λ lines. (text : List ℕ) × IsInput (I.left input.old) (I.left input.new) text × (lines ≡ lines_to_answer text)) }
     ensures end { IfErr result (IsInputEnd (I.left input.old) (I.left input.new) (I.faulted input.old) (I.faulted input.new)) }
 {
     match read_to_limit(alloc, input, INPUT_LIMIT) {
