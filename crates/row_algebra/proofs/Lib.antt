@@ -1,3 +1,4 @@
 pub mod TruthLaws
 pub mod Sorting
 pub mod RowOrders
+pub mod AloneLaws

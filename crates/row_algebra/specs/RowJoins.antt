@@ -1,5 +1,5 @@
 -- Rows that are joined.
-use Rattle.std.specs.Prelude.{ℕ, List, [], ◌∷◌, ◌++◌, map, unwrap_or, slice_get}
+use Rattle.std.specs.Prelude.{◌≡◌, ℕ, List, [], ◌∷◌, ◌++◌, map, unwrap_or, slice_get}
 use Rattle.std.specs.List.{flat_map}
 use Rattle.sp_value.specs.declared.cell.Cell.{Cell}
 
@@ -16,3 +16,9 @@ unfoldable pub joined : List (List Cell) → List (List ℕ) → List (List (Lis
 joined [] picks right = []
 joined (left ∷ lefts) [] right = []
 joined (left ∷ lefts) (places ∷ picks) right = followed right left places ++ joined lefts picks right
+
+-- there is one result, and its rows are the joined rows
+pub record IsAlone (left : List (List Cell)) (picks : List (List ℕ)) (right : List (List (List Cell))) : Type 0 where
+  pub rows : List (List Cell)
+  pub one : right ≡ rows ∷ []
+  pub same : joined left picks right ≡ rows

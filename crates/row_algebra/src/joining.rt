@@ -1,20 +1,18 @@
 // Left rows beside the rows of their results.
 
-ghost use Rattle.std.specs.Prelude.{◌≡◌, ◌++◌, map, OnOk, IfOk};
-ghost use Rattle.row_algebra.specs.RowJoins.{rows_at, followed, joined};
+ghost use Rattle.std.specs.Prelude.{◌≡◌, ◌++◌, ◌∷◌, [], length, map, IsTrue, OnOk, IfOk};
+ghost use Rattle.row_algebra.specs.RowJoins.{rows_at, followed, joined, IsAlone};
 
 use sp_value::{Cell, Cells, Memory, Rows, TryCopy};
 use sqlite_items::Items;
 use std::alloc::Global;
 
-fn push_cells(alloc: Global, into: &mut Cells, cells: &[Cell]) -> Result<(), Memory>
-    ensures { OnOk result (into.new ≡ into.old ++ cells.now) }
+fn push_cells(alloc: Global, into: &mut Vec<Cell>, cells: &[Cell]) -> Result<(), Memory>
+    ensures { OnOk result (into.new.items ≡ into.old.items ++ cells.now) }
 {
     for cell in cells {
         let copy = cell.copy(alloc)?;
-        let Ok(()) = into.push(copy) else {
-            return Err(Memory);
-        };
+        into.push(copy)?;
     }
     Ok(())
 }
@@ -22,10 +20,10 @@ fn push_cells(alloc: Global, into: &mut Cells, cells: &[Cell]) -> Result<(), Mem
 fn joined_row(alloc: Global, left: &[Cell], right: &[Cell]) -> Result<Cells, Memory>
     ensures { IfOk result (λ row. row ≡ left.now ++ right.now) }
 {
-    let mut row = Cells::new(alloc);
+    let mut row = Vec::with_capacity(alloc, left.len().saturating_add(right.len()))?;
     push_cells(alloc, &mut row, left)?;
     push_cells(alloc, &mut row, right)?;
-    Ok(row)
+    Ok(Items::from_vec(row))
 }
 
 /// Puts the left row, followed by each of the right rows, at the end.
@@ -67,10 +65,54 @@ fn push_followed(
     Ok(())
 }
 
-/// Joins rows: each left row is followed by each row of each of its results, in order, unless memory is wanting. The results of a left row
-/// are those at its places in `right`, which may be several; one without places gives no rows.
+/// Whether this is one row without cells.
+fn is_empty_row(rows: &[Cells]) -> bool
+    ensures { IsTrue result → rows.now ≡ [] ∷ [] }
+{
+    match rows {
+        [row] => row.is_empty(),
+        _ => false,
+    }
+}
+
+/// Whether this is the first place alone.
+fn is_first(places: &[u32]) -> bool
+    ensures { IsTrue result → places.now ≡ 0 ∷ [] }
+{
+    match places {
+        [place] => *place == 0,
+        _ => false,
+    }
+}
+
+/// Whether there is one pick, of the first place alone.
+fn picks_first(picks: &[Items<u32>]) -> bool
+    ensures { IsTrue result → picks.now ≡ (0 ∷ []) ∷ [] }
+{
+    match picks {
+        [places] => is_first(places.as_slice()),
+        _ => false,
+    }
+}
+
+fn has_one(right: &[Rows]) -> bool
+    ensures { IsTrue result → length right.now ≡ 1 }
+{
+    right.len() == 1
+}
+
+/// Whether the rows of the one result are the joined rows: the one left row has no cells, and is followed by them.
+fn is_alone(left: &[Cells], picks: &[Items<u32>], right: &[Rows]) -> bool
+    ensures { IsTrue result → IsAlone left.now picks.now right.now }
+{
+    if !is_empty_row(left) || !picks_first(picks) {
+        return false;
+    }
+    has_one(right)
+}
+
 #[tactic(auto, unfolding(crate::specs::RowJoins::joined))]
-pub fn join_rows(
+fn copied_rows(
     alloc: Global,
     left: &Rows,
     picks: &[Items<u32>],
@@ -88,4 +130,24 @@ pub fn join_rows(
         rest = later;
     }
     Ok(rows)
+}
+
+/// Joins rows: each left row is followed by each row of each of its results, in order, unless memory is wanting. The results of a left row
+/// are those at its places in `right`, which may be several; one without places gives no rows. Cells are copied, but where one row without
+/// cells is followed by one result: then that result is given back.
+pub fn join_rows(
+    alloc: Global,
+    left: &Rows,
+    picks: &[Items<u32>],
+    right: Vec<Rows>,
+) -> Result<Rows, Memory>
+    ensures { IfOk result (λ rows. rows ≡ joined left.now picks.now right.items) }
+{
+    let mut right = right;
+    if is_alone(left.as_slice(), picks, right.as_slice()) {
+        if let Some(rows) = right.pop() {
+            return Ok(rows);
+        }
+    }
+    copied_rows(alloc, left, picks, right.as_slice())
 }

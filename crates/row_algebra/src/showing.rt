@@ -5,6 +5,7 @@ ghost use Rattle.row_algebra.specs.RowTruth.{cell_at};
 
 use crate::judging::cell_at;
 use sp_value::{Cell, Cells, Memory, Rows, TryCopy};
+use sqlite_items::Items;
 use std::alloc::Global;
 
 /// Drops the rows after the first `count`. It takes no memory.
@@ -26,14 +27,12 @@ fn shown_cell(alloc: Global, row: &[Cell], column: u32) -> Result<Cell, Memory>
 fn shown_cells(alloc: Global, row: &[Cell], columns: &[u32]) -> Result<Cells, Memory>
     ensures { IfOk result (λ cells. cells ≡ map (cell_at row.now) columns.now) }
 {
-    let mut cells = Cells::new(alloc);
+    let mut cells = Vec::with_capacity(alloc, columns.len())?;
     for column in columns {
         let cell = shown_cell(alloc, row, *column)?;
-        let Ok(()) = cells.push(cell) else {
-            return Err(Memory);
-        };
+        cells.push(cell)?;
     }
-    Ok(cells)
+    Ok(Items::from_vec(cells))
 }
 
 /// The rows with these columns alone, each cell a copy, unless memory is wanting.

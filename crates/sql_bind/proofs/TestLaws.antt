@@ -1,4 +1,4 @@
--- Where each form of condition breaks a refusal first.
+-- Where each form of condition breaks a rule first.
 use Rattle.std.proofs.Common.{◌≡◌, List, [], ◌∷◌, map, refl, sym, ap, ◌∙◌}
 use Rattle.std.specs.Prelude.{Option, Some, None}
 use Rattle.std.specs.List.{flat_map}
@@ -14,7 +14,7 @@ use Rattle.sql_bind.specs.First.{first_of}
 use Rattle.sql_bind.specs.Parts.{Test, Tests, tests_of, tests_layer}
 use Rattle.sql_bind.specs.Refusals.{broken, broken_in}
 use Rattle.sql_bind.specs.Sources.{Seen}
-use Rattle.sql_bind.specs.declared.judging.Refusal.{Refusal}
+use Rattle.sql_bind.specs.declared.judging.NameRule.{NameRule}
 use Rattle.sql_bind.proofs.Firsts.{first_of_append}
 
 tests_or : (xs : List Expr) → tests_of (e.Or xs) ≡ flat_map (λ ts. ts) (map tests_of xs)
@@ -34,32 +34,32 @@ unfolding tests_of
 tests_test of asked = ap (fold-Expr (List Test) tests_layer) (sym (rolls-Test of asked)) ∙ fold-roll-Expr (List Test) tests_layer (Expr-F.Test of asked)
 
 -- the first of the tests of several conditions
-first_in_each : (refusal : Refusal) (looked : List Seen) (xs : List Expr)
-    → first_of (broken refusal) (map (Tests looked) (flat_map (λ ts. ts) (map tests_of xs))) ≡ first_of (broken_in refusal looked) xs
+first_in_each : (rule : NameRule) (looked : List Seen) (xs : List Expr)
+    → first_of (broken rule) (map (Tests looked) (flat_map (λ ts. ts) (map tests_of xs))) ≡ first_of (broken_in rule looked) xs
 unfolding broken_in
-first_in_each refusal looked [] = refl
-first_in_each refusal looked (x ∷ xs) =
-    rw (map-append, first_of_append) (ap (option_or (first_of (broken refusal) (map (Tests looked) (tests_of x)))) (first_in_each refusal looked xs))
+first_in_each rule looked [] = refl
+first_in_each rule looked (x ∷ xs) =
+    rw (map-append, first_of_append) (ap (option_or (first_of (broken rule) (map (Tests looked) (tests_of x)))) (first_in_each rule looked xs))
 
-pub broken_in_or : (refusal : Refusal) (looked : List Seen) (xs : List Expr) → broken_in refusal looked (e.Or xs) ≡ first_of (broken_in refusal looked) xs
+pub broken_in_or : (rule : NameRule) (looked : List Seen) (xs : List Expr) → broken_in rule looked (e.Or xs) ≡ first_of (broken_in rule looked) xs
 unfolding broken_in
-broken_in_or refusal looked xs = rw (tests_or xs) (first_in_each refusal looked xs)
+broken_in_or rule looked xs = rw (tests_or xs) (first_in_each rule looked xs)
 
-pub broken_in_and : (refusal : Refusal) (looked : List Seen) (xs : List Expr) → broken_in refusal looked (e.And xs) ≡ first_of (broken_in refusal looked) xs
+pub broken_in_and : (rule : NameRule) (looked : List Seen) (xs : List Expr) → broken_in rule looked (e.And xs) ≡ first_of (broken_in rule looked) xs
 unfolding broken_in
-broken_in_and refusal looked xs = rw (tests_and xs) (first_in_each refusal looked xs)
+broken_in_and rule looked xs = rw (tests_and xs) (first_in_each rule looked xs)
 
-pub broken_in_not : (refusal : Refusal) (looked : List Seen) (x : Expr) → broken_in refusal looked (e.Not x) ≡ broken_in refusal looked x
+pub broken_in_not : (rule : NameRule) (looked : List Seen) (x : Expr) → broken_in rule looked (e.Not x) ≡ broken_in rule looked x
 unfolding broken_in
-broken_in_not refusal looked x = rw (tests_not x) refl
+broken_in_not rule looked x = rw (tests_not x) refl
 
 or_none : {B : Type 0} (a : Option B) → option_or a None ≡ a
 or_none None = refl
 or_none (Some x) = refl
 
-pub broken_in_test : (refusal : Refusal) (looked : List Seen) (of : Operand) (asked : Asked)
-    → broken_in refusal looked (e.Test of asked) ≡ broken refusal (Tests looked (record { of = of; asked = asked }))
+pub broken_in_test : (rule : NameRule) (looked : List Seen) (of : Operand) (asked : Asked)
+    → broken_in rule looked (e.Test of asked) ≡ broken rule (Tests looked (record { of = of; asked = asked }))
 unfolding broken_in
-broken_in_test refusal looked of asked = rw (tests_test of asked) (or_none (broken refusal (Tests looked (record { of = of; asked = asked }))))
+broken_in_test rule looked of asked = rw (tests_test of asked) (or_none (broken rule (Tests looked (record { of = of; asked = asked }))))
 
 pub ruleset laws = (broken_in_or, broken_in_and, broken_in_not, broken_in_test)

@@ -14,7 +14,7 @@ use Rattle.sql_bind.specs.Sources.{Seen, opened, seen_of}
 use Rattle.sql_bind.specs.declared.bound.Bound.{Bound}
 use Rattle.sql_bind.specs.declared.fault.BindFault.{BindFault}
 use Rattle.sql_bind.specs.declared.fault.BindFault.TheVariants as fault
-use Rattle.sql_bind.specs.declared.judging.Refusal.TheVariants as refusal
+use Rattle.sql_bind.specs.declared.judging.NameRule.TheVariants as rule
 
 -- the answer is this one, unless memory is wanting
 abbrev pub IsUnlessMemory : {T : Type 0} → Result T BindFault → Result T BindFault → Type 0
@@ -52,9 +52,9 @@ needed settings s = refused_or (option_map fault.UnknownConnection (unknown_conn
 -- the first of these kinds that there is, at its first part
 abbrev pub refused_part : List Part → Option BindFault
 refused_part parts =
-    option_or (option_map fault.UnknownColumn (first_of (broken refusal.UnknownColumn) parts))
-    (option_or (option_map fault.Ambiguous (first_of (broken refusal.Ambiguous) parts))
-    (option_map fault.TypeMismatch (first_of (broken refusal.TypeMismatch) parts)))
+    option_or (option_map fault.UnknownColumn (first_of (broken rule.UnknownColumn) parts))
+    (option_or (option_map fault.Ambiguous (first_of (broken rule.Ambiguous) parts))
+    (option_map fault.TypeMismatch (first_of (broken rule.TypeMismatch) parts)))
 
 -- the first refusal in the order of kinds
 abbrev pub refusal : Settings → (List ℕ → Option Declaration) → List Seen → Statement → Option BindFault

@@ -22,8 +22,8 @@ use Rattle.sql_bind.specs.Parts.{Part, Shows, Opens, Tests, Sorts, Test, tests_o
 use Rattle.sql_bind.specs.Sources.{Opened, Seen, opened, alias_of, table_of}
 use Rattle.sql_bind.specs.declared.fitting.Fits.{Fits}
 use Rattle.sql_bind.specs.declared.fitting.Fits.TheVariants as fit
-use Rattle.sql_bind.specs.declared.judging.Refusal.{Refusal}
-use Rattle.sql_bind.specs.declared.judging.Refusal.TheVariants as refusal
+use Rattle.sql_bind.specs.declared.judging.NameRule.{NameRule}
+use Rattle.sql_bind.specs.declared.judging.NameRule.TheVariants as rule
 
 abbrev pub place_unless : Bool → ℕ → Option ℕ
 place_unless true place = None
@@ -149,12 +149,12 @@ type_mismatch (Opens before s) = None
 type_mismatch (Tests looked t) = mismatched_test looked t
 type_mismatch (Sorts looked k) = place_unless (not (is_json (ref_kind looked k.of))) k.of.place
 
--- where a part breaks a refusal
-abbrev pub broken : Refusal → Part → Option ℕ
-broken refusal.UnknownColumn part = unknown_column part
-broken refusal.Ambiguous part = ambiguous part
-broken refusal.TypeMismatch part = type_mismatch part
+-- where a part breaks a rule
+abbrev pub broken : NameRule → Part → Option ℕ
+broken rule.UnknownColumn part = unknown_column part
+broken rule.Ambiguous part = ambiguous part
+broken rule.TypeMismatch part = type_mismatch part
 
--- where the tests of a condition break a refusal first
-unfoldable pub broken_in : Refusal → List Seen → Expr → Option ℕ
-broken_in refusal looked e = first_of (broken refusal) (map (Tests looked) (tests_of e))
+-- where the tests of a condition break a rule first
+unfoldable pub broken_in : NameRule → List Seen → Expr → Option ℕ
+broken_in rule looked e = first_of (broken rule) (map (Tests looked) (tests_of e))

@@ -13,7 +13,7 @@ use crate::catalog::Catalog;
 use crate::conditions::{column_at, column_of, condition_of, fit_of};
 use crate::fault::BindFault;
 use crate::index::index_of;
-use crate::judging::Refusal;
+use crate::judging::NameRule;
 use crate::looked::Looked;
 use crate::sources::{Seen, alias_of, ninth_source, seen_of, unknown_connection, unknown_table};
 use crate::walking::first_place;
@@ -198,13 +198,13 @@ fn bound_by(
 fn refused_part(all: &Looked, statement: &Statement) -> Option<BindFault>
     ensures { result ≡ refused_part (parts_of all.now statement.now) }
 {
-    if let Some(place) = first_place(Refusal::UnknownColumn, all, statement) {
+    if let Some(place) = first_place(NameRule::UnknownColumn, all, statement) {
         return Some(BindFault::UnknownColumn { place });
     }
-    if let Some(place) = first_place(Refusal::Ambiguous, all, statement) {
+    if let Some(place) = first_place(NameRule::Ambiguous, all, statement) {
         return Some(BindFault::Ambiguous { place });
     }
-    if let Some(place) = first_place(Refusal::TypeMismatch, all, statement) {
+    if let Some(place) = first_place(NameRule::TypeMismatch, all, statement) {
         return Some(BindFault::TypeMismatch { place });
     }
     None

@@ -10,9 +10,9 @@ use crate::sources::{alias_of, unless};
 use sp_value::Kind;
 use sql_grammar::{Asked, Constant, Literal, Operand, Ref, Source};
 
-/// What is looked for in each part of a statement.
+/// What is asked of each part of a statement: that its names are known, and told apart, and that its kinds fit.
 #[derive(Clone, Copy)]
-pub(crate) enum Refusal {
+pub(crate) enum NameRule {
     UnknownColumn,
     Ambiguous,
     TypeMismatch,
