@@ -2,3 +2,4 @@ pub mod TruthLaws
 pub mod Sorting
 pub mod RowOrders
 pub mod AloneLaws
+pub mod ShownLaws

@@ -1,3 +1,4 @@
 pub mod RowTruth
 pub mod RowOrder
 pub mod RowJoins
+pub mod RowShown

@@ -1,6 +1,7 @@
 // The first rows, and the columns that are shown.
 
-ghost use Rattle.std.specs.Prelude.{◌≡◌, map, take, IfOk};
+ghost use Rattle.std.specs.Prelude.{◌≡◌, map, take, IsTrue, IfOk};
+ghost use Rattle.row_algebra.specs.RowShown.{CountFrom, AreWide};
 ghost use Rattle.row_algebra.specs.RowTruth.{cell_at};
 
 use crate::judging::cell_at;
@@ -35,16 +36,51 @@ fn shown_cells(alloc: Global, row: &[Cell], columns: &[u32]) -> Result<Cells, Me
     Ok(Items::from_vec(cells))
 }
 
-/// The rows with these columns alone, each cell a copy, unless memory is wanting.
-pub fn project(alloc: Global, rows: &Rows, columns: &[u32]) -> Result<Rows, Memory>
+/// Whether these are the columns from the first on, each once.
+fn are_all(columns: &[u32]) -> bool
+    ensures { IsTrue result → CountFrom 0 columns.now }
+{
+    for (index, column) in columns.iter().enumerate() {
+        if *column as usize != index {
+            return false;
+        }
+    }
+    true
+}
+
+/// Whether every row has so many cells.
+fn are_wide(rows: &[Cells], width: usize) -> bool
+    ensures { IsTrue result → AreWide width rows.now }
+{
+    for row in rows {
+        if row.len() != width {
+            return false;
+        }
+    }
+    true
+}
+
+fn copied_columns(alloc: Global, rows: &[Cells], columns: &[u32]) -> Result<Rows, Memory>
     ensures { IfOk result (λ shown. shown ≡ map (λ row. map (cell_at row) columns.now) rows.now) }
 {
     let mut shown = Rows::new(alloc);
-    for row in rows.as_slice() {
+    for row in rows {
         let cells = shown_cells(alloc, row.as_slice(), columns)?;
         let Ok(()) = shown.push(cells) else {
             return Err(Memory);
         };
     }
     Ok(shown)
+}
+
+/// The rows with these columns alone, unless memory is wanting. Where these are all of each row's columns, in their order, the rows are
+/// given back; else each cell is a copy.
+#[tactic(auto, using(crate::proofs::ShownLaws::all_shown))]
+pub fn project(alloc: Global, rows: Rows, columns: &[u32]) -> Result<Rows, Memory>
+    ensures { IfOk result (λ shown. shown ≡ map (λ row. map (cell_at row) columns.now) rows) }
+{
+    if are_all(columns) && are_wide(rows.as_slice(), columns.len()) {
+        return Ok(rows);
+    }
+    copied_columns(alloc, rows.as_slice(), columns)
 }

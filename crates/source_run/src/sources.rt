@@ -30,10 +30,10 @@ fn joined(
     source: &PlanSource,
     left: &Rows,
     picks: &[Items<u32>],
-    lists: &[Rows],
+    lists: Vec<Rows>,
 ) -> Result<Rows, Memory>
     requires picks { picks.now ≡ picks_of source.now left.now }
-    ensures { IfOk result (λ rows. rows ≡ joined_rows source.now left.now lists.now) }
+    ensures { IfOk result (λ rows. rows ≡ joined_rows source.now left.now lists.items) }
 {
     let mut rows = join_rows(alloc, left, picks, lists)?;
     keep(&mut rows, source.tests.as_slice());
@@ -65,13 +65,7 @@ fn run_source<R: Wait, W: World, D: Desk<W>>(
         Ok(lists) => lists,
         Err(stop) => return Err(stop),
     };
-    match joined(
-        alloc,
-        source,
-        left,
-        scans.picks.as_slice(),
-        lists.as_slice(),
-    ) {
+    match joined(alloc, source, left, scans.picks.as_slice(), lists) {
         Ok(rows) => Ok(rows),
         Err(_) => Err(Stop::Memory),
     }

@@ -90,7 +90,7 @@ module _ (q : Column → Bool) where
       subst (SameReads q) (sym (rolls-And xs))
       (ap (list_all (λ y. list_all q (columns_of y))) (conjuncts_and xs) ∙ members ys ∙ sym (ap (list_all q) (reads_and xs)))
   reads_layer (Test-F.Not y) = subst (SameReads q) (sym (rolls-Not y.0)) (alone_reads q (test.Not y.0) (conjuncts_not y.0))
-  reads_layer (Test-F.Asks of question) = subst (SameReads q) (sym (rolls-Asks of question)) (alone_reads q (e.Test of question) (conjuncts_asks of question))
+  reads_layer (Test-F.Asks of question) = subst (SameReads q) (sym (rolls-Asks of question)) (alone_reads q (test.Asks of question) (conjuncts_asks of question))
 
   same_reads : (x : Test Column) → SameReads q x
   same_reads = ind-Test Column (SameReads q) (λ x y is. subst (λ z. SameReads q (roll-Test Column z)) is (reads_layer y))

@@ -28,7 +28,7 @@ impl Finishing {
         let mut rows = rows;
         order_rows(&mut rows, self.order.as_slice())?;
         limit(&mut rows, self.limit);
-        let shown = project(alloc, &rows, self.shown.as_slice())?;
+        let shown = project(alloc, rows, self.shown.as_slice())?;
         Ok(shown)
     }
 }

@@ -150,6 +150,6 @@ fn numbers(alloc: Global, words: &str) -> Option<Vec<u32>> {
 fn shown(alloc: Global, given: &[Vec<u8>]) -> Option<String> {
     let rows = rows_at(alloc, given, 0)?;
     let columns = numbers(alloc, str_at(given, 1)?)?;
-    let shown = project(alloc, &rows, columns.as_slice()).ok()?;
+    let shown = project(alloc, rows, columns.as_slice()).ok()?;
     spelled_rows(alloc, shown.as_slice())
 }
