@@ -49,7 +49,7 @@ joined-requires g c = record { picks = c.as_slice.ensures ∙ c.in-Ok.ensures.pi
 pub returns-in-Ok-joined-clause-told : goal.returns-in-Ok-joined-clause-told
 returns-in-Ok-joined-clause-told g c =
     λ t o whole more at.
-    subst (λ (rows : List (List Cell)). IsAt whole c.run_scans.new.notes (more rows)) (sym (c.in-Ok-joined.ensures ∙ ap (joined_rows c.args.source.now c.args.left.now) c.as_slice-2.ensures.value))
+    subst (λ (rows : List (List Cell)). IsAt whole c.run_scans.new.notes (more rows)) (sym c.in-Ok-joined.ensures)
     (c.in-Ok-run_scans.ensures.told t o whole (λ lists ws. more (joined_rows c.args.source.now c.args.left.now lists) ws)
     (subst (λ (rs : List ScanRequest). IsAt whole c.args.notes.now (λ vs. scan_all g.W.World.book (arc_value c.args.source.now.table) c.args.source.now.limit [] rs vs (λ lists ws. more (joined_rows c.args.source.now c.args.left.now lists) ws)))
     (sym (c.as_slice-requests.ensures ∙ c.in-Ok.ensures.requests)) (source_scans g.W.World.book (source_of c.args.source.now) c.args.left.now whole c.args.notes.now more at)))
