@@ -9,6 +9,7 @@ ghost use Rattle.statement_words.specs.Advances.{Advances, AreTrue, IsRun, IsKno
 ghost use Rattle.statement_words.specs.Answered.{IsAt, IsAnswer};
 ghost use Rattle.statement_words.specs.Course.{Course, course, from_sources};
 ghost use Rattle.statement_words.specs.Runs.{IsLater};
+ghost use Rattle.statement_words.specs.Turns.{AreInTurn, ticks_of};
 
 use desk::Desk;
 use source_run::join_sources;
@@ -67,6 +68,7 @@ pub fn run_plan<R: Wait, W: World, D: Desk<W>>(
     requires ready { All (IsReady W.tells W.book settings.now.connections) plan.now.sources }
     ensures told { IsTrue W.tells → SubsetKeysFilter W.book → IsAnswer (course W.book (statement_of plan.now)) result.notes result.end }
     ensures notes { IsTrue W.tells → (began : ℕ) → began ≤ (D.state desk.old).tick → AreTrue W.book settings.now.options began result.notes }
+    ensures turn { AreInTurn (D.state desk.old).tick (D.state desk.new).tick (ticks_of result.notes) }
     ensures stop { IfErr result.end (IsKnownStop (D.state desk.new)) }
     ensures desk { IsLater (D.state desk.old) (D.state desk.new) }
 {

@@ -23,6 +23,9 @@ use Rattle.desk.specs.Found.{IsFound}
 use Rattle.sp_world.specs.declared.kept_scan.KeptScan.{KeptScan}
 use Rattle.statement_words.specs.Advances.{Advances, IsRun, IsKnownStop}
 use Rattle.statement_words.proofs.Advancing.{adds_true, known_memory, known_of, run_later}
+use Rattle.statement_words.proofs.Stops.{later_tick, later_then}
+use Rattle.statement_words.proofs.Turning.{adds_in_turn, turns_until}
+use Rattle.statement_words.specs.Turns.{ticks_of}
 use Rattle.sp_world.specs.Kept.{IsKeptValue}
 use Rattle.sp_world.specs.Pieces.{IsToldVersion}
 use Rattle.sp_model.specs.Covers.{covers}
@@ -110,15 +113,17 @@ serving_found {Z} settings at before s table r x kept same own is found =
 
 -- the desk is the same, later, and no note was added
 pub advances_still : (tells : Bool) (book : Book) (settings : Settings) (s t : DeskState) (notes : List ScanNote) → IsLater s t → Advances tells book settings s t notes notes
-advances_still tells book settings s t notes h = record { later = h; noted = λ told began le x. x }
+advances_still tells book settings s t notes h = record { later = h; noted = λ told began le x. x; turn = λ first x. turns_until first s.tick t.tick (ticks_of notes) h.tick x }
 
--- a note of which this holds was added, at a tick that is not below the desk's
-pub advances_noted : (tells : Bool) (book : Book) (settings : Settings) (s t : DeskState) (before after : List ScanNote) (at : ℕ) → s.tick ≤ at → IsLater s t
-    → (IsTrue tells → (began : ℕ) → began ≤ at → Adds (TrueNote book settings.options began) before after) → Advances tells book settings s t before after
-advances_noted tells book settings s t before after at le h adds = record {
-  later = h;
-  noted = λ told began less x. adds_true book settings.options began before after (adds told began (omega arith)) x;
-}
+-- a note of which this holds was added, at a tick that the desk read
+pub advances_noted : (tells : Bool) (book : Book) (settings : Settings) (s t u : DeskState) (before after : List ScanNote) (at : ℕ) → s.tick ≤ at → t ≡ at_tick at s → IsLater t u
+    → (IsTrue tells → (began : ℕ) → began ≤ at → Adds (TrueNote book settings.options began) before after) → Adds (λ n. n.at ≡ at) before after → Advances tells book settings s u before after
+advances_noted tells book settings s t u before after at le read h adds is_at =
+    let over : at ≤ u.tick = omega (arith, ap (λ (x : DeskState). x.tick) read, h.tick) in record {
+      later = later_then s t u (later_tick s t at le read) h;
+      noted = λ told began less x. adds_true book settings.options began before after (adds told began (omega arith)) x;
+      turn = λ first x. adds_in_turn first s.tick at u.tick before after le over is_at x;
+    }
 
 -- a note was added where there are rows
 pub adds_by : {X E : Type 0} (P : ScanNote → Type 0) (result : Result X E) (before after : List ScanNote) (n : ScanNote) → OnOk result (after ≡ before ++ n ∷ []) → OnErr result (after ≡ before) → P n → Adds P before after

@@ -157,6 +157,7 @@ fn fresh_scan<R: Wait, W: World, D: Desk<W>>(
     requires scan_of { IsScanOf (arc_value table.now) request.now }
     ensures told { IsTrue W.tells → IsScanned W.book (arc_value table.now) request.now notes.old notes.new result }
     ensures noted { IsTrue W.tells → (began : ℕ) → began ≤ at → Adds (TrueNote W.book settings.now.options began) notes.old notes.new }
+    ensures taken { Adds (λ n. n.at ≡ at) notes.old notes.new }
     ensures stop { IfErr result (IsStopOf (D.state desk.new) (length notes.new) request.now.connection) }
     ensures state { IsLater (D.state desk.old) (D.state desk.new) }
 {
@@ -193,6 +194,7 @@ pub(crate) fn scan_by_calls<R: Wait, W: World, D: Desk<W>>(
     requires scan_of { IsScanOf (arc_value table.now) request.now }
     ensures told { IsTrue W.tells → IsScanned W.book (arc_value table.now) request.now notes.old notes.new result }
     ensures noted { IsTrue W.tells → (began : ℕ) → began ≤ at → Adds (TrueNote W.book settings.now.options began) notes.old notes.new }
+    ensures taken { Adds (λ n. n.at ≡ at) notes.old notes.new }
     ensures stop { IfErr result (IsStopOf (D.state desk.new) (length notes.new) request.now.connection) }
     ensures state { IsLater (D.state desk.old) (D.state desk.new) }
 {

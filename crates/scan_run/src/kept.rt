@@ -156,6 +156,7 @@ pub(crate) fn scan_by_kept<W: World>(
     requires of_book { IsTrue W.tells → book_table W.book request.now.connection request.now.table ≡ Some (arc_value table.now) }
     ensures told { IsTrue W.tells → SubsetKeysFilter W.book → IsScanned W.book (arc_value table.now) request.now notes.old notes.new result }
     ensures noted { IsTrue W.tells → (began : ℕ) → began ≤ at → Adds (TrueNote W.book settings.now.options began) notes.old notes.new }
+    ensures taken { Adds (λ n. n.at ≡ at) notes.old notes.new }
     ensures err { IfErr result IsMemory }
 {
     match served_scan::<W>(alloc, kept, settings, request, table, at, notes) {

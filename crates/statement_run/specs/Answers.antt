@@ -24,6 +24,7 @@ use Rattle.statement_plan.specs.Plans.{first_missing, IsPlanOf}
 use Rattle.statement_plan.specs.declared.plan.Plan.{Plan}
 use Rattle.statement_words.specs.Answered.{IsAnswer as IsCourseAnswer}
 use Rattle.statement_words.specs.Course.{course}
+use Rattle.statement_words.specs.Turns.{ticks_of}
 use Rattle.statement_words.specs.declared.stop.Stop.{Stop}
 use Rattle.statement_words.specs.declared.stop.Stop.TheVariants as stop
 use Rattle.plan_run.specs.Statements.{statement_of}
@@ -39,6 +40,10 @@ plain_answer began e = record { end = e; names = []; kinds = []; notes = []; beg
 
 abbrev pub refused : ℕ → BlockFault → Answer
 refused began f = plain_answer began (end.Refused f)
+
+-- the ticks of an answer: where the statement began, and where its scans were noted
+abbrev pub answer_ticks : Answer → List ℕ
+answer_ticks answer = answer.began ∷ ticks_of answer.notes
 
 -- ---- declarations
 

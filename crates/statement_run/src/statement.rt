@@ -6,7 +6,8 @@ ghost use Rattle.declaration_run.specs.Declaring.{IsTold, AreRead};
 ghost use Rattle.sql_bind.specs.Answer.{needed};
 ghost use Rattle.statement_words.specs.Advances.{AreTrue, IsRun};
 ghost use Rattle.statement_words.specs.Runs.{IsGone, IsLater};
-ghost use Rattle.statement_run.specs.Answers.{plain_answer, end_of, IsAnswer, IsByText, IsStatementAnswer, IsByNeeded, IfSpent};
+ghost use Rattle.statement_words.specs.Turns.{AreInTurn, ticks_of};
+ghost use Rattle.statement_run.specs.Answers.{plain_answer, answer_ticks, end_of, IsAnswer, IsByText, IsStatementAnswer, IsByNeeded, IfSpent};
 ghost use Rattle.statement_run.specs.Parts.{IsReadyPlan};
 ghost use Rattle.statement_run.specs.Settings.{members_are_plain};
 ghost use Rattle.statement_run.specs.declared.answer.AnswerEnd.TheVariants as ends;
@@ -102,6 +103,7 @@ fn run_planned<R: Wait, W: World, D: Desk<W>>(
     ensures told { IsTrue W.tells → SubsetKeysFilter W.book → IsStatementAnswer W.book settings.now result statement.now }
     ensures text { IsByNeeded result (needed settings.now statement.now) }
     ensures notes { IsTrue W.tells → AreTrue W.book settings.now.options began result.notes }
+    ensures turn { AreInTurn began (D.state desk.new).tick (ticks_of result.notes) }
     ensures spent { IfSpent result.end (IsGone (D.state desk.new)) }
     ensures began { result.began ≡ began }
     ensures state { IsLater (D.state desk.old) (D.state desk.new) }
@@ -131,6 +133,7 @@ fn run_read<R: Wait, W: World, D: Desk<W>>(
     ensures answer { IsTrue W.tells → SubsetKeysFilter W.book → (result ≡ plain_answer began ends.Memory) ⊎ IsStatementAnswer W.book catalog.old.settings result statement.now }
     ensures text { (result ≡ plain_answer began ends.Memory) ⊎ IsByNeeded result (needed catalog.old.settings statement.now) }
     ensures notes { IsTrue W.tells → AreTrue W.book catalog.old.settings.options began result.notes }
+    ensures turn { AreInTurn began (D.state desk.new).tick (ticks_of result.notes) }
     ensures spent { IfSpent result.end (IsGone (D.state desk.new)) }
     ensures began { result.began ≡ began }
     ensures state { IsLater (D.state desk.old) (D.state desk.new) }
@@ -169,8 +172,7 @@ pub fn run_statement<R: Wait, W: World, D: Desk<W>>(
     ensures text { IsByText catalog.old.settings text.now result }
     ensures notes { IsTrue W.tells → AreTrue W.book catalog.old.settings.options result.began result.notes }
     ensures spent { IfSpent result.end (IsGone (D.state desk.new)) }
-    ensures began { (D.state desk.old).tick ≤ result.began }
-    ensures over { result.began ≤ (D.state desk.new).tick }
+    ensures turn { AreInTurn (D.state desk.old).tick (D.state desk.new).tick (answer_ticks result) }
     ensures state { IsLater (D.state desk.old) (D.state desk.new) }
 {
     let began = desk.now();

@@ -7,6 +7,7 @@ use Rattle.sp_model.specs.declared.settings.Options.{Options}
 use Rattle.sp_model.specs.declared.settings.Settings.{Settings}
 use Rattle.desk.specs.States.{DeskState}
 use Rattle.statement_words.specs.Runs.{IsLater, IsGone}
+use Rattle.statement_words.specs.Turns.{AreInTurn, ticks_of}
 use Rattle.statement_words.specs.declared.stop.Stop.{Stop}
 use Rattle.statement_words.specs.declared.stop.Stop.TheVariants as stop
 
@@ -20,10 +21,11 @@ pub record IsRun (settings : Settings) (s : DeskState) : Type 0 where
 abbrev pub AreTrue : Book → Options → ℕ → List ScanNote → Type 0
 AreTrue book options began notes = (k : ℕ) (n : ScanNote) → slice_get notes k ≡ Some n → TrueNote book options began n
 
--- the desk is the same, later; where the notes were true they still are
+-- the desk is the same, later; where the notes were true they still are, and where their ticks were in turn they still are
 pub record Advances (tells : Bool) (book : Book) (settings : Settings) (before after : DeskState) (notes more : List ScanNote) : Type 0 where
   pub later : IsLater before after
   pub noted : IsTrue tells → (began : ℕ) → began ≤ before.tick → AreTrue book settings.options began notes → AreTrue book settings.options began more
+  pub turn : (first : ℕ) → AreInTurn first before.tick (ticks_of notes) → AreInTurn first after.tick (ticks_of more)
 
 -- a connection whose restarts are said to be spent is known to be gone
 abbrev pub IsKnownStop : DeskState → Stop → Type 0

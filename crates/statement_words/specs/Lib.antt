@@ -5,3 +5,4 @@ pub mod Ended
 pub mod Laws
 pub mod Noted
 pub mod Runs
+pub mod Turns

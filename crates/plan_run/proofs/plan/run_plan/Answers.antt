@@ -1,9 +1,10 @@
-use Rattle.std.proofs.Common.{◌∷◌, [], List, sym, subst}
+use Rattle.std.proofs.Common.{ℕ, ◌∷◌, [], List, sym, subst, arith}
 use Rattle.sp_model.specs.declared.scan.ScanNote.{ScanNote}
 use Rattle.plan_run.specs.Statements.{statement_of}
 use Rattle.statement_words.specs.Advances.{AreTrue}
 use Rattle.statement_words.specs.Answered.{IsAt}
 use Rattle.statement_words.specs.Course.{course, from_sources}
+use Rattle.statement_words.specs.Turns.{AreInTurn, ticks_of}
 use Rattle.statement_words.proofs.Courses.{course_begins}
 use Rattle.statement_words.proofs.Stops.{later_still, later_then}
 use Rattle.plan_run.proofs.Ended.{still_known}
@@ -28,6 +29,13 @@ returns-clause-notes g c =
     λ t began le.
     c.run_sources-end.ensures.advances.noted t began le
     (subst (λ (notes : List ScanNote). AreTrue g.W.World.book c.args.settings.now.options began notes) (sym c.new-notes.ensures) (λ k n e. absurd (cc)))
+
+pub returns-clause-turn : goal.returns-clause-turn
+returns-clause-turn g c =
+    let first = (g.D.Desk.state c.args.desk.now).tick in
+    let ran = g.D.Desk.state c.run_sources-end.new.desk in
+    let none : AreInTurn first first (ticks_of c.new-notes.result) = subst (λ (notes : List ScanNote). AreInTurn first first (ticks_of notes)) (sym c.new-notes.ensures) (omega arith) in
+    subst (λ (last : ℕ). AreInTurn first last (ticks_of c.run_sources-end.new.notes)) (sym c.end_statement.ensures.state.tick) (c.run_sources-end.ensures.advances.turn first none)
 
 pub returns-clause-stop : goal.returns-clause-stop
 returns-clause-stop g c =

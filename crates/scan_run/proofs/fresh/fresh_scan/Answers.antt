@@ -26,6 +26,9 @@ returns-in-Err-clause-told g c =
 pub returns-in-Err-clause-noted : goal.returns-in-Err-clause-noted
 returns-in-Err-clause-noted g c = λ t began le. inl c.in-Err.ensures.err
 
+pub returns-in-Err-clause-taken : goal.returns-in-Err-clause-taken
+returns-in-Err-clause-taken g c = inl c.in-Err.ensures.err
+
 pub returns-in-Err-clause-stop : goal.returns-in-Err-clause-stop
 returns-in-Err-clause-stop g c = spent_stop _ _ _ _ c.in-Err.ensures.stop
 
@@ -60,6 +63,9 @@ returns-clause-noted g c =
       c.in-Ok.ensures.noted,
       new_is_true g.W.World.book c.args.settings.now.options began c.args.at c.args.request.now c.in-Ok.scan.version le (c.in-Ok.ensures.told t),
     )
+
+pub returns-clause-taken : goal.returns-clause-taken
+returns-clause-taken g c = inr (new_note c.args.request.now c.args.at c.in-Ok.scan.version, c.in-Ok.ensures.noted, refl)
 
 pub returns-clause-stop : goal.returns-clause-stop
 returns-clause-stop g c =

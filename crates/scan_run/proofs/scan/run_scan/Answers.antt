@@ -29,7 +29,7 @@ returns-in-Some-clause-told g c = λ t o. c.scan_by_kept.ensures.told t o
 
 pub returns-in-Some-clause-advances : goal.returns-in-Some-clause-advances
 returns-in-Some-clause-advances g c =
-    advances_noted _ _ _ _ _ _ _ c.now-at.result c.now-at.ensures.later (later_then _ _ _ (later_tick _ _ _ c.now-at.ensures.later c.now-at.ensures.state) (later_still _ _ c.look.ensures.still)) c.scan_by_kept.ensures.noted
+    advances_noted _ _ _ _ _ _ _ _ c.now-at.result c.now-at.ensures.later c.now-at.ensures.state (later_still _ _ c.look.ensures.still) c.scan_by_kept.ensures.noted c.scan_by_kept.ensures.taken
 
 pub returns-in-Some-clause-stop : goal.returns-in-Some-clause-stop
 returns-in-Some-clause-stop g c = memory_known _ c.scan_by_kept.result c.scan_by_kept.ensures.err
@@ -51,8 +51,8 @@ returns-in-None-clause-told g c = λ t o. c.scan_by_calls.ensures.told t
 
 pub returns-in-None-clause-advances : goal.returns-in-None-clause-advances
 returns-in-None-clause-advances g c =
-    advances_noted _ _ _ _ _ _ _ c.now-at.result c.now-at.ensures.later
-    (later_then _ _ _ (later_then _ _ _ (later_tick _ _ _ c.now-at.ensures.later c.now-at.ensures.state) (later_still _ _ c.look.ensures.still)) c.scan_by_calls.ensures.state) c.scan_by_calls.ensures.noted
+    advances_noted _ _ _ _ _ _ _ _ c.now-at.result c.now-at.ensures.later c.now-at.ensures.state (later_then _ _ _ (later_still _ _ c.look.ensures.still) c.scan_by_calls.ensures.state)
+    c.scan_by_calls.ensures.noted c.scan_by_calls.ensures.taken
 
 pub returns-in-None-clause-stop : goal.returns-in-None-clause-stop
 returns-in-None-clause-stop g c = known_stop _ _ _ _ c.scan_by_calls.ensures.stop
