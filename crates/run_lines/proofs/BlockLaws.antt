@@ -1,20 +1,21 @@
 -- Blocks, one after another.
 use Rattle.std.proofs.Common.{◌≡◌, ℕ, ◌+◌, ◌<◌, ◌≤◌, List, [], ◌∷◌, ◌++◌, length, take, get_or, Result, Ok, Err, sym, ap, ◌∙◌, subst, arith}
 use Rattle.std.specs.Prelude.{IfOk}
-use Rattle.std.proofs.lemmas.List.{take_more}
+use Rattle.std.proofs.lemmas.List.{take_more, append-nil, append_assoc}
 use Rattle.sp_model.specs.Book.{Book}
 use Rattle.sp_model.specs.declared.settings.Options.{Options}
 use Rattle.desk.specs.States.{DeskState}
 use Rattle.input_lines.specs.declared.line.Line.{Line}
-use Rattle.input_lines.specs.declared.line.Line.TheVariants as line
 use Rattle.statement_words.proofs.Stops.{gone_later}
 use Rattle.statement_words.specs.Advances.{AreTrue}
 use Rattle.statement_words.specs.Runs.{IsGone, IsLater}
+use Rattle.statement_words.specs.Turns.{AreInTurn}
+use Rattle.statement_words.proofs.Turning.{turns_then}
 use Rattle.statement_run.specs.Answers.{IfSpent}
 use Rattle.statement_run.specs.declared.answer.Answer.{Answer}
 use Rattle.statement_run.specs.declared.answer.AnswerEnd.{AnswerEnd}
 use Rattle.statement_run.specs.declared.answer.AnswerEnd.TheVariants as end
-use Rattle.run_lines.specs.Blocks.{IsBlockSo, AreBlocksSo, AreTrulyNoted, BeginInTurn, AllSpent}
+use Rattle.run_lines.specs.Blocks.{IsBlockSo, AreBlocksSo, AreTrulyNoted, AllSpent, line_ticks, block_ticks}
 use Rattle.run_lines.specs.declared.block.Block.{Block}
 
 pub none_true : (book : Book) (options : Options) (began : ℕ) → AreTrue book options began []
@@ -38,32 +39,18 @@ noted_more book options (c ∷ cs) b h one = (h.0, noted_more book options cs b 
 
 -- ---- ticks
 
-sooner : (before from until : ℕ) (ls : List Line) (bs : List Block) → before ≤ from → BeginInTurn from until ls bs → BeginInTurn before until ls bs
-sooner before from until [] [] le h = omega arith
-sooner before from until [] (b ∷ bs) le h = absurd h
-sooner before from until (line.BadForm ∷ ls) (b ∷ bs) le h = sooner before from until ls bs le h
-sooner before from until (line.Statement session text ∷ ls) (b ∷ bs) le h = (omega (arith, h.0), h.1)
-sooner before from until (line.ClearCache session ∷ ls) (b ∷ bs) le h = (omega (arith, h.0), h.1)
-sooner before from until (line.BadForm ∷ ls) [] le h = absurd h
-sooner before from until (line.Statement session text ∷ ls) [] le h = absurd h
-sooner before from until (line.ClearCache session ∷ ls) [] le h = absurd h
+-- the ticks of one answer more
+ticks_more : (P : List ℕ → Answer → Type 0) (ls : List Line) (bs : List Block) (l : Line) (b : Block) → AreBlocksSo P ls bs → block_ticks (ls ++ l ∷ []) (bs ++ b ∷ []) ≡ block_ticks ls bs ++ line_ticks l b
+ticks_more P [] [] l b h = append-nil (line_ticks l b)
+ticks_more P [] (c ∷ cs) l b h = absurd h
+ticks_more P (k ∷ ks) [] l b h = absurd h
+ticks_more P (k ∷ ks) (c ∷ cs) l b h = ap (λ (ts : List ℕ). line_ticks k c ++ ts) (ticks_more P ks cs l b h.1) ∙ sym (append_assoc (line_ticks k c) (block_ticks ks cs) (line_ticks l b))
 
-turn_more : (from between until : ℕ) (ls : List Line) (bs : List Block) (l : Line) (b : Block) → BeginInTurn from between ls bs → BeginInTurn between until (l ∷ []) (b ∷ [])
-    → BeginInTurn from until (ls ++ l ∷ []) (bs ++ b ∷ [])
-turn_more from between until [] [] l b h one = sooner from between until (l ∷ []) (b ∷ []) h one
-turn_more from between until [] (c ∷ cs) l b h one = absurd h
-turn_more from between until (line.BadForm ∷ ls) (c ∷ cs) l b h one = turn_more from between until ls cs l b h one
-turn_more from between until (line.Statement session text ∷ ls) (c ∷ cs) l b h one = (h.0, turn_more c.answer.began between until ls cs l b h.1 one)
-turn_more from between until (line.ClearCache session ∷ ls) (c ∷ cs) l b h one = (h.0, turn_more c.answer.began between until ls cs l b h.1 one)
-turn_more from between until (line.BadForm ∷ ls) [] l b h one = absurd h
-turn_more from between until (line.Statement session text ∷ ls) [] l b h one = absurd h
-turn_more from between until (line.ClearCache session ∷ ls) [] l b h one = absurd h
-
-pub turns_more : (from between until : ℕ) (lines : List Line) (i : ℕ) (l : Line) (bs : List Block) (b : Block) → i < length lines → l ≡ get_or lines i l
-    → BeginInTurn from between (take i lines) bs → BeginInTurn between until (l ∷ []) (b ∷ []) → BeginInTurn from until (take (i + 1) lines) (bs ++ b ∷ [])
-turns_more from between until lines i l bs b within is h one =
-    subst (λ (ls : List Line). BeginInTurn from until ls (bs ++ b ∷ [])) (sym (take_more lines i l within ∙ ap (λ x. take i lines ++ x ∷ []) (sym is)))
-    (turn_more from between until (take i lines) bs l b h one)
+pub turns_more : (P : List ℕ → Answer → Type 0) (first between last : ℕ) (lines : List Line) (i : ℕ) (l : Line) (bs : List Block) (b : Block) → i < length lines → l ≡ get_or lines i l
+    → AreBlocksSo P (take i lines) bs → AreInTurn first between (block_ticks (take i lines) bs) → AreInTurn between last (line_ticks l b) → AreInTurn first last (block_ticks (take (i + 1) lines) (bs ++ b ∷ []))
+turns_more P first between last lines i l bs b within is are h one =
+    subst (λ (ls : List Line). AreInTurn first last (block_ticks ls (bs ++ b ∷ []))) (sym (take_more lines i l within ∙ ap (λ x. take i lines ++ x ∷ []) (sym is)))
+    (subst (AreInTurn first last) (sym (ticks_more P (take i lines) bs l b are)) (turns_then first between last (block_ticks (take i lines) bs) (line_ticks l b) h one))
 
 pub spent_more : (P : List ℕ → ℕ → Type 0) (bs : List Block) (b : Block) → AllSpent P bs → IfSpent b.answer.end P → AllSpent P (bs ++ b ∷ [])
 spent_more P [] b h one = (one, tt)

@@ -7,7 +7,7 @@ use Rattle.sp_model.specs.declared.settings.Settings.{Settings}
 use Rattle.input_lines.specs.declared.line.Line.{Line}
 use Rattle.input_lines.specs.declared.line.Line.TheVariants.{Statement, ClearCache, BadForm}
 use Rattle.statement_words.specs.Advances.{AreTrue}
-use Rattle.statement_run.specs.Answers.{refused, IsAnswer, IsByText, IfSpent}
+use Rattle.statement_run.specs.Answers.{refused, answer_ticks, IsAnswer, IsByText, IfSpent}
 use Rattle.statement_run.specs.declared.answer.Answer.{Answer}
 use Rattle.statement_run.specs.declared.answer.BlockFault.TheVariants as fault
 use Rattle.run_lines.specs.declared.block.Block.{Block}
@@ -37,13 +37,17 @@ abbrev pub AreTrulyNoted : Book → Options → List Block → Type 0
 AreTrulyNoted book options [] = Unit {0}
 AreTrulyNoted book options (b ∷ bs) = AreTrue book options b.answer.began b.answer.notes × AreTrulyNoted book options bs
 
--- each answer begins no earlier than the one before, between two ticks; a line of bad form is answered at none
-abbrev pub BeginInTurn : ℕ → ℕ → List Line → List Block → Type 0
-BeginInTurn from until [] [] = from ≤ until
-BeginInTurn from until (BadForm ∷ ls) (b ∷ bs) = BeginInTurn from until ls bs
-BeginInTurn from until (Statement session text ∷ ls) (b ∷ bs) = (from ≤ b.answer.began) × BeginInTurn b.answer.began until ls bs
-BeginInTurn from until (ClearCache session ∷ ls) (b ∷ bs) = (from ≤ b.answer.began) × BeginInTurn b.answer.began until ls bs
-BeginInTurn from until _ _ = ⊥
+-- the ticks of an answer to a line; a line of bad form is answered at none
+abbrev pub line_ticks : Line → Block → List ℕ
+line_ticks (Statement session text) b = answer_ticks b.answer
+line_ticks (ClearCache session) b = answer_ticks b.answer
+line_ticks BadForm b = []
+
+-- those of the answers to lines, in their order
+abbrev pub block_ticks : List Line → List Block → List ℕ
+block_ticks [] bs = []
+block_ticks (l ∷ ls) [] = []
+block_ticks (l ∷ ls) (b ∷ bs) = line_ticks l b ++ block_ticks ls bs
 
 -- each spent restart budget is of a connection and a number of losses with this property
 abbrev pub AllSpent : (List ℕ → ℕ → Type 0) → List Block → Type 0

@@ -5,10 +5,11 @@ ghost use Rattle.declaration_run.specs.Declaring.{IsTold, AreRead};
 ghost use Rattle.scan_run.specs.Asked.{SubsetKeysFilter};
 ghost use Rattle.statement_words.specs.Advances.{AreTrue, IsRun};
 ghost use Rattle.statement_words.specs.Runs.{IsGone, IsLater};
+ghost use Rattle.statement_words.specs.Turns.{AreInTurn};
 ghost use Rattle.statement_run.specs.Answers.{refused, IsAnswer, IsByText, IfSpent};
 ghost use Rattle.statement_run.specs.Settings.{members_are_plain};
 ghost use Rattle.statement_run.specs.declared.answer.BlockFault.TheVariants as fault;
-ghost use Rattle.run_lines.specs.Blocks.{IsBlockSo, AreAnswers, AreByText, AreTrulyNoted, BeginInTurn, AllSpent};
+ghost use Rattle.run_lines.specs.Blocks.{IsBlockSo, AreAnswers, AreByText, AreTrulyNoted, AllSpent, line_ticks, block_ticks};
 
 use crate::block::Block;
 use desk::Desk;
@@ -53,7 +54,7 @@ fn answer_line<R: Wait, W: World, D: Desk<W>>(
     ensures text { IsBlockSo (IsByText catalog.old.settings) line.now result }
     ensures notes { IsTrue W.tells → AreTrue W.book catalog.old.settings.options result.answer.began result.answer.notes }
     ensures spent { IfSpent result.answer.end (IsGone (D.state desk.new)) }
-    ensures turn { BeginInTurn (D.state desk.old).tick (D.state desk.new).tick (line.now ∷ []) (result ∷ []) }
+    ensures turn { AreInTurn (D.state desk.old).tick (D.state desk.new).tick (line_ticks line.now result) }
     ensures state { IsLater (D.state desk.old) (D.state desk.new) }
 {
     match line {
@@ -91,7 +92,7 @@ pub fn answer_lines<R: Wait, W: World, D: Desk<W>>(
     ensures text { IfOk result (AreByText catalog.old.settings lines.now) }
     ensures notes { IsTrue W.tells → IfOk result (AreTrulyNoted W.book catalog.old.settings.options) }
     ensures spent { IfOk result (AllSpent (IsGone (D.state desk.new))) }
-    ensures turns { IfOk result (BeginInTurn (D.state desk.old).tick (D.state desk.new).tick lines.now) }
+    ensures turns { IfOk result (λ blocks. AreInTurn (D.state desk.old).tick (D.state desk.new).tick (block_ticks lines.now blocks)) }
     ensures state { IsLater (D.state desk.old) (D.state desk.new) }
 {
     let mut blocks = Items::new(alloc);

@@ -1,10 +1,11 @@
 // A run over children.
 
-ghost use Rattle.std.specs.Prelude.{◌≡◌, ℕ, List, length, map, IsTrue, IfOk};
+ghost use Rattle.std.specs.Prelude.{◌≡◌, ◌^◌, List, length, map, IsTrue, IfOk};
 ghost use Rattle.scan_run.specs.Asked.{SubsetKeysFilter};
 ghost use Rattle.sp_model.specs.Sayable.{KeepsForms};
+ghost use Rattle.statement_words.specs.Turns.{AreInTurn};
 ghost use Rattle.statement_run.specs.Settings.{CanRun};
-ghost use Rattle.run_lines.specs.Blocks.{AreAnswers, AreByText, AreTrulyNoted, BeginInTurn, AllSpent, HasLostChild, CameBack, AreOver, with_child};
+ghost use Rattle.run_lines.specs.Blocks.{AreAnswers, AreByText, AreTrulyNoted, AllSpent, HasLostChild, CameBack, AreOver, with_child, block_ticks};
 
 use crate::block::Block;
 use crate::children::{give_back, make_all};
@@ -43,7 +44,7 @@ fn run_over<R: Wait, W: World, C: Child<W>, K: Clock>(
     ensures told { IsTrue W.tells → SubsetKeysFilter W.book → IfOk result.blocks (AreAnswers W.book settings.now lines.now) }
     ensures text { IfOk result.blocks (AreByText settings.now lines.now) }
     ensures notes { IsTrue W.tells → IfOk result.blocks (AreTrulyNoted W.book settings.now.options) }
-    ensures turns { IfOk result.blocks (λ blocks. (last : ℕ) × BeginInTurn 0 last lines.now blocks) }
+    ensures turns { IfOk result.blocks (λ blocks. AreInTurn 0 (2 ^ 62) (block_ticks lines.now blocks)) }
     ensures own { map (λ s. C.connection s.link.child) result.slots.items ≡ map (λ c. c.name) (with_child settings.now.connections) }
     ensures lost { IfOk result.blocks (AllSpent (HasLostChild C.faulted C.gives (IsTrue W.tells × KeepsForms W.book) 0 (with_child settings.now.connections) (map (λ s. s.link.child) result.slots.items))) }
 {
@@ -88,7 +89,7 @@ pub fn run_lines<R: Wait, W: World, M: Nursery<W>, K: Clock>(
     ensures told { IsTrue W.tells → SubsetKeysFilter W.book → IfOk result (AreAnswers W.book settings.now lines.now) }
     ensures text { IfOk result (AreByText settings.now lines.now) }
     ensures notes { IsTrue W.tells → IfOk result (AreTrulyNoted W.book settings.now.options) }
-    ensures turns { IfOk result (λ blocks. (last : ℕ) × BeginInTurn 0 last lines.now blocks) }
+    ensures turns { IfOk result (λ blocks. AreInTurn 0 (2 ^ 62) (block_ticks lines.now blocks)) }
     ensures over { IfOk result (AreOver M.Kid.faulted M.Kid.gives M.Kid.connection (IsTrue W.tells × KeepsForms W.book) 0 (with_child settings.now.connections) (M.back nursery.old) (M.back nursery.new)) }
     ensures children { (children : List M.Kid) × CameBack M.Kid.connection (with_child settings.now.connections) (M.back nursery.old) (M.back nursery.new) children }
     ensures back { length (M.back nursery.new) ≡ M.made nursery.new }

@@ -1,5 +1,5 @@
 -- What a run of the program answers.
-use Rattle.std.specs.Prelude.{◌≡◌, ◌⊎◌, ℕ, List, codes, Bool, true, false, IsTrue, Option, Some, None, if◌then◌else◌}
+use Rattle.std.specs.Prelude.{◌≡◌, ◌⊎◌, ◌^◌, ℕ, List, codes, Bool, true, false, IsTrue, Option, Some, None, if◌then◌else◌}
 use Rattle.std.specs.List.{list_any, list_all}
 use Rattle.std.specs.Io.KnownBytes.{Appends}
 use Rattle.sp_model.specs.Book.{Book}
@@ -9,8 +9,9 @@ use Rattle.sp_outside.specs.Causes.{Rose}
 use Rattle.sp_outside.specs.Files.{FileTold}
 use Rattle.sp_outside.specs.Writing.{GrewByPrefix}
 use Rattle.input_lines.specs.Lines.{lines_to_answer}
-use Rattle.run_lines.specs.Blocks.{AreAnswers, AreByText, AreTrulyNoted, BeginInTurn, AreOver, CameBack, with_child}
+use Rattle.run_lines.specs.Blocks.{AreAnswers, AreByText, AreTrulyNoted, AreOver, CameBack, with_child, block_ticks}
 use Rattle.run_lines.specs.declared.block.Block.{Block}
+use Rattle.statement_words.specs.Turns.{AreInTurn}
 use Rattle.statement_run.specs.declared.answer.AnswerEnd.{AnswerEnd}
 use Rattle.statement_run.specs.declared.answer.AnswerEnd.TheVariants as end
 use Rattle.scan_run.specs.Asked.{SubsetKeysFilter}
@@ -135,8 +136,8 @@ pub record Outside (Kid : Type 0) : Type 0 where
   pub back : List Kid
 
 -- an input was answered by settings: its whole was read; the answers are the defined ones, where the children tell and their subset keys only
--- filter, and the notes are true; none began earlier than the one before; the children of all plain connections came back in their order, each
--- spent restart budget has its lost child among them; the texts of the answers and of their notes were written
+-- filter, and the notes are true; the ticks at which statements began and scans were noted never fall; the children of all plain connections
+-- came back in their order, each spent restart budget has its lost child among them; the texts of the answers and of their notes were written
 pub record HasAnswered {Kid : Type 0} (faulted gives : Kid → ℕ) (own : Kid → List ℕ) (tells : Bool) (book : Book) (settings : Settings) (form : Form) (status : Status)
     (before after : Outside Kid) : Type 0 where
   pub input : List ℕ
@@ -145,7 +146,7 @@ pub record HasAnswered {Kid : Type 0} (faulted gives : Kid → ℕ) (own : Kid �
   pub defined : IsTrue tells → SubsetKeysFilter book → AreAnswers book settings (lines_to_answer input) blocks
   pub noted : IsTrue tells → AreTrulyNoted book settings.options blocks
   pub text : AreByText settings (lines_to_answer input) blocks
-  pub turns : (last : ℕ) × BeginInTurn 0 last (lines_to_answer input) blocks
+  pub turns : AreInTurn 0 (2 ^ 62) (block_ticks (lines_to_answer input) blocks)
   pub over : AreOver faulted gives own (IsTrue tells × KeepsForms book) 0 (with_child settings.connections) before.back after.back blocks
   pub written : IsWritten form status blocks before.held after.held before.notes after.notes
 

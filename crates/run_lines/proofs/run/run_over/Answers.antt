@@ -1,7 +1,9 @@
-use Rattle.std.proofs.Common.{ap, subst, ◌∙◌}
+use Rattle.std.proofs.Common.{◌^◌, ap, subst, ◌∙◌, arith}
 use Rattle.std.specs.Prelude.{IfOk}
 use Rattle.sp_model.specs.declared.settings.Settings.{Settings}
-use Rattle.run_lines.specs.Blocks.{AreAnswers, AreByText, AreTrulyNoted, BeginInTurn}
+use Rattle.statement_words.specs.Turns.{AreInTurn}
+use Rattle.statement_words.proofs.Turning.{turns_until}
+use Rattle.run_lines.specs.Blocks.{AreAnswers, AreByText, AreTrulyNoted, block_ticks}
 use Rattle.run_lines.proofs.BlockLaws.{ok_maps}
 use Rattle.run_lines.proofs.ChildLaws.{none_declared}
 use Rattle.run_lines.proofs.LostLaws.{all_lost}
@@ -34,6 +36,9 @@ returns-clause-lost g c =
     c.answer_lines-blocks.ensures.spent
 
 pub returns-clause-turns : goal.returns-clause-turns
-returns-clause-turns g c = ok_maps c.answer_lines-blocks.result _ _
-    (λ blocks turns. (c.answer_lines-blocks.new.desk.clock.tick, subst (λ n. BeginInTurn n c.answer_lines-blocks.new.desk.clock.tick c.args.lines.now blocks) c.over-desk.ensures.none.0 turns))
+returns-clause-turns g c =
+    let clock = c.answer_lines-blocks.new.desk.clock in
+    ok_maps c.answer_lines-blocks.result _ _
+    (λ blocks turns. turns_until 0 clock.tick (2 ^ 62) (block_ticks c.args.lines.now blocks) (omega (arith, clock.read.0, clock.read.1))
+    (subst (λ n. AreInTurn n clock.tick (block_ticks c.args.lines.now blocks)) c.over-desk.ensures.none.0 turns))
     c.answer_lines-blocks.ensures.turns
