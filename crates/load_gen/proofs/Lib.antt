@@ -1,2 +1,3 @@
 pub mod Forms
+mod Keys
 pub mod More

@@ -3,7 +3,7 @@ use Rattle.std.specs.Prelude.{◌≡◌, ℕ, List, [], ◌∷◌, codes, Option
 use Rattle.sp_value.specs.declared.kind.Kind.{Kind}
 use Rattle.sp_value.specs.declared.kind.Kind.TheVariants.{Int, Text}
 use Rattle.sp_value.specs.declared.truth.Op.TheVariants.{Eq}
-use Rattle.sp_model.specs.Book.{Book}
+use Rattle.sp_model.specs.SubsetKeys.{SubsetKeysOnlyFilter}
 use Rattle.sp_model.specs.declared.declaration.Backoff.TheVariants.{Constant}
 use Rattle.sp_model.specs.declared.declaration.ColumnDecl.{ColumnDecl}
 use Rattle.sp_model.specs.declared.declaration.Declaration.{Declaration}
@@ -14,7 +14,7 @@ use Rattle.sp_model.specs.declared.declaration.Matching.TheVariants.{Exact}
 use Rattle.sp_model.specs.declared.declaration.Need.TheVariants.{Required}
 use Rattle.sp_model.specs.declared.declaration.Retry.{Retry}
 use Rattle.sp_model.specs.declared.declaration.TableDecl.{TableDecl}
-use Rattle.decl_words.specs.BookTables.{book_declaration}
+use Rattle.decl_words.specs.BookTables.{book_declaration, book_table}
 use Rattle.load_gen.specs.Generated.{generated}
 
 abbrev pub column : List ℕ → Kind → Option (List ℕ) → ColumnDecl
@@ -55,3 +55,9 @@ declared = record { tables = table ∷ []; ignore = None; retry = None }
 -- the declaration of every connection is read so
 abbrev pub DeclaresRows : Type 0
 DeclaresRows = (connection : List ℕ) → book_declaration generated connection ≡ Ok declared
+
+-- a condition more on a key that is declared to filter only leaves out items alone: no key is so declared
+abbrev pub KeysFilter : Type 0
+KeysFilter =
+    (connection name : List ℕ) (t : TableDecl) (d : ListDecl)
+    → book_table generated connection name ≡ Some t → t.list ≡ Some d → SubsetKeysOnlyFilter generated connection t d

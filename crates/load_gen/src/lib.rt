@@ -12,7 +12,7 @@ mod settings;
 mod totals;
 mod world;
 
-pub use laws::{generated_declares_rows, generated_keeps_forms};
+pub use laws::{generated_declares_rows, generated_keeps_forms, generated_keys_filter};
 pub use settings::{load_settings, load_statement};
 pub use totals::summary;
 pub use world::Generated;

@@ -65,7 +65,7 @@ pub fn load_settings(alloc: Global) -> Result<Settings, Memory>
 }
 
 /// The statement of a load of so many rows.
-pub fn load_statement(alloc: Global, count: u32) -> Result<String, Memory>
+pub fn load_statement(alloc: Global, count: u64) -> Result<String, Memory>
     ensures { IfOk result (λ text. string_bytes text ≡ statement count) }
 {
     let text = format!(in alloc; "select id, owner, score from gen.row where size = {count}")?;

@@ -1,6 +1,6 @@
 -- Blocks, one after another.
 use Rattle.std.proofs.Common.{◌≡◌, ℕ, ◌+◌, ◌<◌, ◌≤◌, List, [], ◌∷◌, ◌++◌, length, take, get_or, Result, Ok, Err, sym, ap, ◌∙◌, subst, arith}
-use Rattle.std.specs.Prelude.{IfOk}
+use Rattle.std.specs.Prelude.{IfOk, OnOk}
 use Rattle.std.proofs.lemmas.List.{take_more, append-nil, append_assoc}
 use Rattle.sp_model.specs.Book.{Book}
 use Rattle.sp_model.specs.declared.settings.Options.{Options}
@@ -74,3 +74,7 @@ spent_stays before after bs later h = spent_maps (IsGone before) (IsGone after) 
 pub ok_maps : {E : Type 0} (r : Result (List Block) E) (P Q : List Block → Type 0) → ((bs : List Block) → P bs → Q bs) → IfOk r P → IfOk r Q
 ok_maps (Ok bs) P Q f h = f bs h
 ok_maps (Err e) P Q f h = tt
+
+pub on_ok : {T E P : Type 0} (r : Result T E) → P → OnOk r P
+on_ok (Ok x) h = h
+on_ok (Err e) h = tt

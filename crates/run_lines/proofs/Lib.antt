@@ -1,3 +1,4 @@
 pub mod BlockLaws
+mod CallLaws
 mod ChildLaws
 mod LostLaws

@@ -1,14 +1,16 @@
 // A run over children.
 
-ghost use Rattle.std.specs.Prelude.{◌≡◌, ◌^◌, List, length, map, IsTrue, IfOk};
+ghost use Rattle.std.specs.Prelude.{◌≡◌, ◌^◌, ℕ, List, length, map, IsTrue, IfOk, OnOk};
 ghost use Rattle.scan_run.specs.Asked.{SubsetKeysFilter};
 ghost use Rattle.sp_model.specs.Sayable.{KeepsForms};
 ghost use Rattle.statement_words.specs.Turns.{AreInTurn};
 ghost use Rattle.statement_run.specs.Settings.{CanRun};
 ghost use Rattle.run_lines.specs.Blocks.{AreAnswers, AreByText, AreTrulyNoted, AllSpent, HasLostChild, CameBack, AreOver, with_child, block_ticks};
+ghost use Rattle.run_lines.specs.Calls.{AreCounted};
 
-use crate::block::Block;
+use crate::block::{Block, Ran};
 use crate::children::{give_back, make_all};
+use crate::counting::calls_of;
 use crate::lines::answer_lines;
 use input_lines::Line;
 use plain_desk::{PlainDesk, Slot};
@@ -74,23 +76,29 @@ fn run_over<R: Wait, W: World, C: Child<W>, K: Clock>(
     }
 }
 
-/// Answers the lines of an input, in their order, over children of the settings' plain connections, which all go back to the nursery before
-/// the call returns, in the order of the settings.
-pub fn run_lines<R: Wait, W: World, M: Nursery<W>, K: Clock>(
+/// The blocks of lines, and how many calls were sent for them.
+struct Counted {
+    blocks: Result<Items<Block>, Memory>,
+    calls: u64,
+}
+
+/// Answers lines over children that it makes and gives back, and counts the calls.
+fn run_counted<R: Wait, W: World, M: Nursery<W>, K: Clock>(
     rt: &R,
     alloc: Global,
     settings: &Settings,
     lines: &[Line],
     nursery: &mut M,
     clock: &K,
-) -> Result<Items<Block>, Memory>
+) -> Counted
     requires all_back { length (M.back nursery.old) ≡ M.made nursery.old }
     requires can_run { CanRun settings.now }
-    ensures told { IsTrue W.tells → SubsetKeysFilter W.book → IfOk result (AreAnswers W.book settings.now lines.now) }
-    ensures text { IfOk result (AreByText settings.now lines.now) }
-    ensures notes { IsTrue W.tells → IfOk result (AreTrulyNoted W.book settings.now.options) }
-    ensures turns { IfOk result (λ blocks. AreInTurn 0 (2 ^ 62) (block_ticks lines.now blocks)) }
-    ensures over { IfOk result (AreOver M.Kid.faulted M.Kid.gives M.Kid.connection (IsTrue W.tells × KeepsForms W.book) 0 (with_child settings.now.connections) (M.back nursery.old) (M.back nursery.new)) }
+    ensures told { IsTrue W.tells → SubsetKeysFilter W.book → IfOk result.blocks (AreAnswers W.book settings.now lines.now) }
+    ensures text { IfOk result.blocks (AreByText settings.now lines.now) }
+    ensures notes { IsTrue W.tells → IfOk result.blocks (AreTrulyNoted W.book settings.now.options) }
+    ensures turns { IfOk result.blocks (λ blocks. AreInTurn 0 (2 ^ 62) (block_ticks lines.now blocks)) }
+    ensures over { IfOk result.blocks (AreOver M.Kid.faulted M.Kid.gives M.Kid.connection (IsTrue W.tells × KeepsForms W.book) 0 (with_child settings.now.connections) (M.back nursery.old) (M.back nursery.new)) }
+    ensures calls { OnOk result.blocks (AreCounted M.Kid.sends (M.back nursery.old) (M.back nursery.new) result.calls) }
     ensures children { (children : List M.Kid) × CameBack M.Kid.connection (with_child settings.now.connections) (M.back nursery.old) (M.back nursery.new) children }
     ensures back { length (M.back nursery.new) ≡ M.made nursery.new }
 {
@@ -98,11 +106,45 @@ pub fn run_lines<R: Wait, W: World, M: Nursery<W>, K: Clock>(
     let connections = settings.connections.as_slice();
     let Ok(()) = make_all::<W, M>(alloc, connections, nursery, &mut slots) else {
         give_back::<W, M>(alloc, nursery, slots);
-        return Err(Memory);
+        return Counted {
+            blocks: Err(Memory),
+            calls: 0,
+        };
     };
     let Over { blocks, slots } = run_over::<R, W, M::Kid, K>(
         rt, alloc, settings, lines, slots, clock,
     );
+    let calls = calls_of::<W, M::Kid>(slots.as_slice());
     give_back::<W, M>(alloc, nursery, slots);
-    blocks
+    Counted { blocks, calls }
+}
+
+/// Answers the lines of an input, in their order, over children of the settings' plain connections, which all go back to the nursery before
+/// the call returns, in the order of the settings. It says how many calls these were sent.
+pub fn run_lines<R: Wait, W: World, M: Nursery<W>, K: Clock>(
+    rt: &R,
+    alloc: Global,
+    settings: &Settings,
+    lines: &[Line],
+    nursery: &mut M,
+    clock: &K,
+) -> Result<Ran, Memory>
+    requires all_back { length (M.back nursery.old) ≡ M.made nursery.old }
+    requires can_run { CanRun settings.now }
+    ensures told { IsTrue W.tells → SubsetKeysFilter W.book → IfOk result (λ ran. AreAnswers W.book settings.now lines.now ran.blocks) }
+    ensures text { IfOk result (λ ran. AreByText settings.now lines.now ran.blocks) }
+    ensures notes { IsTrue W.tells → IfOk result (λ ran. AreTrulyNoted W.book settings.now.options ran.blocks) }
+    ensures turns { IfOk result (λ ran. AreInTurn 0 (2 ^ 62) (block_ticks lines.now ran.blocks)) }
+    ensures over { IfOk result (λ ran. AreOver M.Kid.faulted M.Kid.gives M.Kid.connection (IsTrue W.tells × KeepsForms W.book) 0 (with_child settings.now.connections) (M.back nursery.old) (M.back nursery.new) ran.blocks) }
+    ensures calls { IfOk result (λ ran. AreCounted M.Kid.sends (M.back nursery.old) (M.back nursery.new) ran.calls) }
+    ensures children { (children : List M.Kid) × CameBack M.Kid.connection (with_child settings.now.connections) (M.back nursery.old) (M.back nursery.new) children }
+    ensures back { length (M.back nursery.new) ≡ M.made nursery.new }
+{
+    let Counted { blocks, calls } = run_counted::<R, W, M, K>(
+        rt, alloc, settings, lines, nursery, clock,
+    );
+    match blocks {
+        Ok(blocks) => Ok(Ran { blocks, calls }),
+        Err(Memory) => Err(Memory),
+    }
 }

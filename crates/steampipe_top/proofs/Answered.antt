@@ -27,13 +27,13 @@ memory_is_free None = inr refl
 memory_is_free (Some x) = λ e. absurd (cc)
 
 -- a status of blocks is one of these three
-abbrev IsEnd : Status → Type 0
+abbrev pub IsEnd : Status → Type 0
 IsEnd Done = Unit {0}
 IsEnd Failed = Unit {0}
 IsEnd Memory = Unit {0}
 IsEnd _ = ⊥
 
-ended : (memory rows : Bool) → IsEnd (if memory then Memory else (if rows then Done else Failed))
+pub ended : (memory rows : Bool) → IsEnd (if memory then Memory else (if rows then Done else Failed))
 ended true rows = tt
 ended false true = tt
 ended false false = tt

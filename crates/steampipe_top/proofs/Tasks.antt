@@ -9,6 +9,6 @@ use Rattle.steampipe_top.specs.declared.task.Task.TheVariants.{Query, Explain, L
 pub task_of_words : (t : Task) (w : Words) (words : List (List ℕ)) → words_of words ≡ Some w → IsTaskOf t w → IsTask t words
 task_of_words (Query file form) w words said is = said ∙ ap Some is
 task_of_words (Explain file second) w words said is = (is.0, said ∙ ap Some is.1)
-task_of_words Load w words said is = (is.0, is.1, said ∙ ap Some is.2)
+task_of_words (Load count form) w words said is = said ∙ ap Some is
 task_of_words Nothing w words said never = absurd never
 task_of_words Memory w words said never = absurd never

@@ -16,12 +16,11 @@ use Rattle.statement_run.specs.declared.answer.AnswerEnd.{AnswerEnd}
 use Rattle.statement_run.specs.declared.answer.AnswerEnd.TheVariants as end
 use Rattle.scan_run.specs.Asked.{SubsetKeysFilter}
 use Rattle.settings_text.specs.Reading.{read_settings}
-use Rattle.answer_text.specs.Errors.{error_text}
-use Rattle.answer_text.specs.declared.answer.ErrorLine.TheVariants as error_line
 use Rattle.answer_text.specs.declared.answer.Form.{Form}
 use Rattle.command_words.specs.Words.{words_of}
 use Rattle.command_words.specs.declared.words.Command.TheVariants.{Query, Explain, Load}
 use Rattle.command_words.specs.declared.words.Words.{Words}
+use Rattle.load_gen.specs.Summary.{load_settings}
 use Rattle.steampipe_top.specs.Reading.{refusal_line, AreSettings, AreBadSettings, AreRefused, IsInput}
 use Rattle.steampipe_top.specs.Shown.{blocks_text, notes_text}
 use Rattle.steampipe_top.specs.declared.task.Task.{Task}
@@ -39,14 +38,14 @@ Asks words file form = words_of words ≡ Some (record { command = Query file; f
 abbrev pub AsksToExplain : List (List ℕ) → List ℕ → List ℕ → Type 0
 AsksToExplain words file second = (form : Form) × (words_of words ≡ Some (record { command = Explain file second; form = form }))
 
--- to run a statement over generated rows, which comes later
-abbrev pub AsksToLoad : List (List ℕ) → Type 0
-AsksToLoad words = (count : ℕ) × (form : Form) × (words_of words ≡ Some (record { command = Load count; form = form }))
+-- to run the statement of a load over so many rows; an answer that isn't rows has the form
+abbrev pub AsksToLoad : List (List ℕ) → ℕ → Form → Type 0
+AsksToLoad words count form = words_of words ≡ Some (record { command = Load count; form = form })
 
 abbrev pub IsTask : Task → List (List ℕ) → Type 0
 IsTask (task.Query file form) words = Asks words file form
 IsTask (task.Explain file second) words = AsksToExplain words file second
-IsTask task.Load words = AsksToLoad words
+IsTask (task.Load count form) words = AsksToLoad words count form
 IsTask task.Nothing words = words_of words ≡ None
 IsTask task.Memory words = Unit {0}
 
@@ -54,7 +53,7 @@ IsTask task.Memory words = Unit {0}
 abbrev pub IsTaskOf : Task → Words → Type 0
 IsTaskOf (task.Query file form) w = w ≡ record { command = Query file; form = form }
 IsTaskOf (task.Explain file second) w = (form : Form) × (w ≡ record { command = Explain file second; form = form })
-IsTaskOf task.Load w = (count : ℕ) × (form : Form) × (w ≡ record { command = Load count; form = form })
+IsTaskOf (task.Load count form) w = w ≡ record { command = Load count; form = form }
 IsTaskOf _ w = ⊥
 
 -- ---- statuses
@@ -156,10 +155,14 @@ pub record AreNamed (words : List (List ℕ)) (files : List ℕ → FileTold) (s
   pub named : Asks words file form
   pub are : AreSettings read_settings (files file) settings
 
--- no child came back; or those of the first plain connections of the settings that the words name, in their order
+-- the words ask for answers by these settings: those of a file, or those of a load
+abbrev pub AnswersBy : List (List ℕ) → (List ℕ → FileTold) → Settings → Type 0
+AnswersBy words files settings = ((form : Form) × AreNamed words files settings form) ⊎ ((count : ℕ) × (form : Form) × AsksToLoad words count form × (settings ≡ load_settings))
+
+-- no child came back; or those of the first plain connections of the settings by which the words ask for answers, in their order
 abbrev pub AreReturned : {Kid : Type 0} → (Kid → List ℕ) → List (List ℕ) → (List ℕ → FileTold) → List Kid → List Kid → Type 0
 AreReturned {Kid} own words files back back_after =
-    (back_after ≡ back) ⊎ ((settings : Settings) × (form : Form) × AreNamed words files settings form × ((children : List Kid) × CameBack own (with_child settings.connections) back back_after children))
+    (back_after ≡ back) ⊎ ((settings : Settings) × AnswersBy words files settings × ((children : List Kid) × CameBack own (with_child settings.connections) back back_after children))
 
 -- the words name a file whose settings are refused, by a line of which this holds
 pub record AreNone (words : List (List ℕ)) (files : List ℕ → FileTold) (faults faults_after : ℕ) (P : List ℕ → Type 0) : Type 0 where
@@ -177,15 +180,3 @@ pub record HasRun {Kid : Type 0} (faulted gives : Kid → ℕ) (own : Kid → Li
   pub form : Form
   pub named : AreNamed words files settings form
   pub answered : HasAnswered faulted gives own tells book settings form status before after
-
--- what is written where the words ask for what comes later
-abbrev pub IsLaterWritten : Status → Option (List ℕ) → Option (List ℕ) → Type 0
-IsLaterWritten Failed held held_after = Appends held held_after (error_text error_line.NotYet)
-IsLaterWritten WriteFault held held_after = GrewByPrefix held held_after (error_text error_line.NotYet)
-IsLaterWritten _ held held_after = ⊥
-
--- the words ask for what comes later, and the answers say so, and nothing else
-pub record IsNotYet (words : List (List ℕ)) (status : Status) (held held_after notes notes_after : Option (List ℕ)) : Type 0 where
-  pub later : AsksToLoad words
-  pub written : IsLaterWritten status held held_after
-  pub silent : notes_after ≡ notes

@@ -9,12 +9,12 @@ use sp_value::Text;
 use std::alloc::Global;
 
 /// What the words ask for: answers to the input's lines, by a settings file and in a form; the scans of its statements, by a settings and a
-/// declaration file; generated rows; or nothing.
+/// declaration file; a load of so many rows; or nothing.
 #[derive(Drop)]
 pub(crate) enum Task {
     Query { settings: Text, form: Form },
     Explain { settings: Text, declaration: Text },
-    Load,
+    Load { count: u64, form: Form },
     Nothing,
     Memory,
 }
@@ -32,7 +32,7 @@ fn task_of(words: Words) -> Task
             settings,
             declaration,
         },
-        Command::Load { .. } => Task::Load,
+        Command::Load { count } => Task::Load { count, form },
     }
 }
 

@@ -4,14 +4,16 @@ ghost use Rattle.command_words.specs.Words.{words_of};
 ghost use Rattle.run_lines.specs.Blocks.{CameBack, with_child};
 ghost use Rattle.statement_run.specs.Settings.{CanRun};
 ghost use Rattle.steampipe_top.specs.Reading.{IsOverLimit};
-ghost use Rattle.steampipe_top.specs.Running.{AreNone, AreReturned, IsPastFiles, HasAnswered, HasRun, IsNotYet, IsNoted, IfAnswered, IfRefused};
+ghost use Rattle.steampipe_top.specs.Running.{AreNone, AreReturned, IsPastFiles, HasAnswered, HasRun, IsNoted, IfAnswered, IfRefused};
+ghost use Rattle.steampipe_top.specs.Loading.{HasLoaded, IsToLoad};
 ghost use Rattle.steampipe_top.specs.Explaining.{HasExplainedBy, IsReady, IsRefusedBy, IsToExplain};
 
 use crate::explaining::explain;
+use crate::loading::load;
 use crate::reading::{FileEnd, InputEnd, lines_of, settings_of};
 use crate::status::Status;
 use crate::task::{Task, read_task};
-use crate::writing::{refuse, write_blocks, write_not_yet};
+use crate::writing::{refuse, write_blocks};
 use answer_text::Form;
 use run_lines::run_lines;
 use sp_model::Settings;
@@ -54,7 +56,7 @@ fn run<R: Wait, W: World, I: Source, O: Sink, N: Sink, M: Nursery<W>, K: Clock>(
         Err(InputEnd::Memory) => return Status::Memory,
     };
     match run_lines::<R, W, M, K>(rt, alloc, settings, lines.as_slice(), nursery, clock) {
-        Ok(blocks) => write_blocks(alloc, form, blocks, answers, notes),
+        Ok(ran) => write_blocks(alloc, form, ran.blocks, answers, notes),
         Err(Memory) => Status::Memory,
     }
 }
@@ -63,7 +65,8 @@ fn run<R: Wait, W: World, I: Source, O: Sink, N: Sink, M: Nursery<W>, K: Clock>(
 /// the answers and then the notes.
 ///
 /// The words are those of `command_words`, all others are `Usage`. `explain` reads a declaration file too, makes no child, and writes what
-/// statements would scan; `load` comes later, and is answered so. The input has at most 1,048,576 bytes and 10,000 lines.
+/// statements would scan. `load` reads nothing: it answers a statement of its own, by settings of its own, and writes how many rows and
+/// calls there were and a sum. The input has at most 1,048,576 bytes and 10,000 lines.
 /// A run that is refused writes one line to the notes and nothing to the answers.
 pub fn steampipe<
     R: Wait,
@@ -86,7 +89,7 @@ pub fn steampipe<
     clock: &K,
 ) -> Status
     requires all_back { length (M.back nursery.old) ≡ M.made nursery.old }
-    ensures answered { IfAnswered result ((O.held answers.new ≡ O.held answers.old) × (N.held notes.new ≡ N.held notes.old)) (HasRun M.Kid.faulted M.Kid.gives M.Kid.connection W.tells W.book words.now (F.file files.old) result (record { left = I.left input.old; held = O.held answers.old; notes = N.held notes.old; back = M.back nursery.old }) (record { left = I.left input.new; held = O.held answers.new; notes = N.held notes.new; back = M.back nursery.new }) ⊎ IsToExplain words.now (λ file second. HasExplainedBy (F.file files.old) file second result (I.left input.old) (I.left input.new) (O.held answers.old) (O.held answers.new) (N.held notes.old) (N.held notes.new)) ⊎ IsNotYet words.now result (O.held answers.old) (O.held answers.new) (N.held notes.old) (N.held notes.new)) }
+    ensures answered { IfAnswered result ((O.held answers.new ≡ O.held answers.old) × (N.held notes.new ≡ N.held notes.old)) (HasRun M.Kid.faulted M.Kid.gives M.Kid.connection W.tells W.book words.now (F.file files.old) result (record { left = I.left input.old; held = O.held answers.old; notes = N.held notes.old; back = M.back nursery.old }) (record { left = I.left input.new; held = O.held answers.new; notes = N.held notes.new; back = M.back nursery.new }) ⊎ IsToExplain words.now (λ file second. HasExplainedBy (F.file files.old) file second result (I.left input.old) (I.left input.new) (O.held answers.old) (O.held answers.new) (N.held notes.old) (N.held notes.new)) ⊎ IsToLoad words.now (λ count form. HasLoaded M.Kid.faulted M.Kid.gives M.Kid.sends M.Kid.connection W.tells W.book count form result (O.held answers.old) (O.held answers.new) (M.back nursery.old) (M.back nursery.new) × (N.held notes.new ≡ N.held notes.old) × (I.left input.new ≡ I.left input.old))) }
     ensures usage { MatchOption (words_of words.now) ((result ≡ Status.Usage) ⊎ (result ≡ Status.Memory)) (λ _. result ≢ Status.Usage) }
     ensures settings { result ≡ Status.Settings → AreNone words.now (F.file files.old) (F.faulted files.old) (F.faulted files.new) (λ line. (O.held answers.new ≡ O.held answers.old) × IsNoted (N.faulted notes.old) (N.faulted notes.new) (N.held notes.old) (N.held notes.new) line) ⊎ IsToExplain words.now (λ file second. (line : List ℕ) × IsRefusedBy (F.file files.old) file second (F.faulted files.old) (F.faulted files.new) line × ((O.held answers.new ≡ O.held answers.old) × IsNoted (N.faulted notes.old) (N.faulted notes.new) (N.held notes.old) (N.held notes.new) line)) }
     ensures file_fault { result ≡ Status.FileFault → Rose (F.faulted files.old) (F.faulted files.new) }
@@ -110,7 +113,9 @@ pub fn steampipe<
             settings,
             declaration,
         } => explain(alloc, &settings, &declaration, input, files, answers, notes),
-        Task::Load => write_not_yet(answers),
+        Task::Load { count, form } => {
+            load::<R, W, O, M, K>(rt, alloc, form, count, answers, nursery, clock)
+        }
         Task::Nothing => refuse(notes, USAGE, Status::Usage),
         Task::Memory => Status::Memory,
     }

@@ -2,7 +2,7 @@
 
 ghost use Rattle.std.specs.Prelude.{◌≡◌, ◌⊎◌, ◌++◌, map, IfOk, OnOk};
 ghost use Rattle.sp_outside.specs.Causes.{Rose};
-ghost use Rattle.steampipe_top.specs.Running.{is_memory, is_rows, any_memory, all_rows, blocks_status, IsNoted, IsWritten, IsLaterWritten, IsPastFiles, IfAnswered, IfRefused};
+ghost use Rattle.steampipe_top.specs.Running.{is_memory, is_rows, any_memory, all_rows, blocks_status, IsNoted, IsWritten, IsPastFiles, IfAnswered, IfRefused};
 ghost use Rattle.steampipe_top.specs.Shown.{shown_block, texts_of, blocks_text, notes_from, notes_text};
 
 use crate::shown::{ShownBlock, shown_block};
@@ -49,7 +49,7 @@ fn all_rows(blocks: &[Block]) -> bool
     blocks.iter().all(is_rows)
 }
 
-fn blocks_status(blocks: &[Block]) -> Status
+pub(crate) fn blocks_status(blocks: &[Block]) -> Status
     ensures { result ≡ blocks_status blocks.now }
 {
     if any_memory(blocks) {
@@ -62,7 +62,7 @@ fn blocks_status(blocks: &[Block]) -> Status
 }
 
 /// Blocks as they are shown, in their order.
-fn shown_blocks(alloc: Global, blocks: Items<Block>) -> Result<Vec<ShownBlock>, Memory>
+pub(crate) fn shown_blocks(alloc: Global, blocks: Items<Block>) -> Result<Vec<ShownBlock>, Memory>
     ensures { IfOk result (λ v. v.items ≡ map shown_block blocks) }
 {
     let mut left = blocks;
@@ -77,7 +77,7 @@ fn shown_blocks(alloc: Global, blocks: Items<Block>) -> Result<Vec<ShownBlock>, 
 }
 
 /// The texts of blocks in a form, one empty line between two of them.
-fn texts_of(alloc: Global, form: Form, blocks: &[ShownBlock]) -> Result<Vec<u8>, Memory>
+pub(crate) fn texts_of(alloc: Global, form: Form, blocks: &[ShownBlock]) -> Result<Vec<u8>, Memory>
     ensures { IfOk result (λ v. v.items ≡ texts_of form blocks.now) }
 {
     let mut text = Vec::new(alloc);
@@ -130,19 +130,6 @@ fn push_all(text: &mut Vec<u8>, more: &[u8]) -> Result<(), Memory>
     match text.extend_from_slice(more) {
         Ok(()) => Ok(()),
         Err(_) => Err(Memory),
-    }
-}
-
-/// Says in the answers that what is asked for comes later.
-pub(crate) fn write_not_yet<O: Sink>(answers: &mut O) -> Status
-    ensures written { IsLaterWritten result (O.held answers.old) (O.held answers.new) }
-    ensures ends { IfRefused result (λ _. ⊥) }
-    ensures later { IsPastFiles result }
-    ensures cause { result ≡ Status.WriteFault → Rose (O.faulted answers.old) (O.faulted answers.new) }
-{
-    match write_all(answers, b"error: not yet\n") {
-        Ok(()) => Status::Failed,
-        Err(_) => Status::WriteFault,
     }
 }
 

@@ -1,4 +1,4 @@
-use Rattle.std.proofs.Common.{◌≡◌, ◌+◌, List, ◌∷◌, [], ◌++◌, take, sym, subst, ◌∙◌}
+use Rattle.std.proofs.Common.{◌≡◌, ◌+◌, ◌∷◌, [], ◌++◌, take, sym, subst, ◌∙◌}
 use Rattle.sp_model.specs.declared.settings.Settings.{Settings}
 use Rattle.statement_words.proofs.Stops.{later_then}
 use Rattle.statement_words.specs.Advances.{AreTrue}
@@ -6,7 +6,6 @@ use Rattle.statement_words.specs.Runs.{IsGone}
 use Rattle.statement_words.specs.Turns.{AreInTurn}
 use Rattle.statement_run.specs.Answers.{IsAnswer, IsByText}
 use Rattle.run_lines.specs.Blocks.{IsBlockSo, AreBlocksSo, AreTrulyNoted, AllSpent, block_ticks}
-use Rattle.run_lines.specs.declared.block.Block.{Block}
 use Rattle.run_lines.proofs.BlockLaws.{blocks_more, noted_more, turns_more, spent_more, spent_stays}
 use Rattle.run_lines.proofs.lines.answer_lines.Goals as goal
 
@@ -34,7 +33,7 @@ loop-line-preserved g c =
       notes = λ tells. subst (AreTrulyNoted book settings.options) (sym pushed)
           (noted_more book settings.options before.blocks block (before.invariant.notes tells)
           (subst (λ (x : Settings). AreTrue book x.options block.answer.began block.answer.notes) before.invariant.settings (ran.ensures.notes tells)));
-      turns = subst (λ (bs : List Block). AreInTurn (g.D.Desk.state c.args.desk.now).tick (g.D.Desk.state ran.new.desk).tick (block_ticks (take (before.line-index + 1) lines) bs)) (sym pushed)
+      turns = subst (λ bs. AreInTurn (g.D.Desk.state c.args.desk.now).tick (g.D.Desk.state ran.new.desk).tick (block_ticks (take (before.line-index + 1) lines) bs)) (sym pushed)
           (turns_more (IsByText settings) (g.D.Desk.state c.args.desk.now).tick (g.D.Desk.state before.desk).tick (g.D.Desk.state ran.new.desk).tick lines before.line-index c.line-item.result before.blocks block
           c.loop-line-test.true c.line-item.is before.invariant.text before.invariant.turns ran.ensures.turn);
       spent = subst (AllSpent (IsGone (g.D.Desk.state ran.new.desk))) (sym pushed)

@@ -1,8 +1,10 @@
 use Rattle.std.proofs.Common.{◌++◌, length, map, ap, ◌∙◌, arith}
 use Rattle.std.proofs.lemmas.List.{length-append, length-map}
-use Rattle.run_lines.proofs.BlockLaws.{ok_maps}
+use Rattle.run_lines.specs.Calls.{calls_of}
+use Rattle.run_lines.proofs.BlockLaws.{ok_maps, on_ok}
+use Rattle.run_lines.proofs.CallLaws.{of_children}
 use Rattle.run_lines.proofs.ChildLaws.{map_map, first_children, all_children, as_many}
-use Rattle.run_lines.proofs.run.run_lines.Goals as goal
+use Rattle.run_lines.proofs.run.run_counted.Goals as goal
 
 pub returns-in_default-clause-children : goal.returns-in_default-clause-children
 returns-in_default-clause-children g c =
@@ -35,6 +37,16 @@ returns-clause-over g c =
       lost = lost;
     })
     c.run_over-blocks.ensures.lost
+
+pub returns-clause-calls : goal.returns-clause-calls
+returns-clause-calls g c =
+    let slots = c.run_over-blocks.result.slots.items in
+    let children = map (λ s. s.link.child) slots in
+    on_ok c.run_over-blocks.result.blocks (record {
+      children = children;
+      after = c.give_back-2.ensures.back ∙ ap (λ b. b ++ children) c.make_all.ensures.back;
+      counted = c.calls_of-calls.ensures ∙ ap (calls_of (λ s. g.M.Kid.Child.sends s.link.child)) c.as_slice.ensures.value ∙ of_children (λ s. s.link.child) g.M.Kid.Child.sends slots;
+    })
 
 pub returns-clause-children : goal.returns-clause-children
 returns-clause-children g c =
