@@ -20,6 +20,8 @@ use Rattle.sp_model.specs.declared.declaration.FunctionDecl.{FunctionDecl}
 use Rattle.sp_model.specs.declared.declaration.Rule.{Rule}
 use Rattle.sp_model.specs.declared.declaration.TableDecl.{TableDecl}
 use Rattle.sp_model.specs.declared.outcome.Walk.{Walk}
+use Rattle.sp_model.specs.declared.outcome.Walk.TheVariants.{Failed}
+use Rattle.sp_model.specs.declared.scan.Cause.TheVariants.{BadVersion}
 use Rattle.sp_model.specs.declared.scan.Access.{Access}
 use Rattle.sp_model.specs.declared.scan.Access.TheVariants.{Get, List as OfList, Parents}
 use Rattle.sp_model.specs.declared.scan.ScanRequest.{ScanRequest}
@@ -41,11 +43,14 @@ use Rattle.scan_laws.specs.Steps.{first_parents, begin_by, begin_of}
 use Rattle.scan_core.specs.Calls.{items_source}
 use Rattle.scan_core.specs.Courses.{end_view, state_of, table_of, IsScope, IsCourse}
 use Rattle.scan_core.specs.Going.{IsIn}
+use Rattle.scan_core.specs.Laws.{IsOpen}
 use Rattle.scan_core.specs.declared.course.Course.{Course}
 use Rattle.scan_core.specs.declared.scope.ScanScope.{ScanScope}
+use Rattle.one_scan.proofs.Places.{begun_waits}
 use Rattle.one_scan.proofs.Lawful.{items_some, outer_some, access_lawful, functions_tried}
 use Rattle.one_scan.specs.Forms.{AreItems, AreWide, IsAskedBy, IsInnerForm, IsOuterForm, IsStateForm, IsPlanForm, IsForm}
-use Rattle.one_scan.specs.Scans.{IsAt, AgreesWith, IsScan, number_of, end_of, IsBegun, BeginsAt}
+use Rattle.one_scan.specs.Runs.{state_at}
+use Rattle.one_scan.specs.Scans.{IsAt, AgreesWith, IsScan, Waits, number_of, end_of, IsBegun, BeginsAt}
 
 -- ---- a table that is sound
 
@@ -173,6 +178,24 @@ begun_scan {X} tells book scope d version asked sources begins number sayable ma
       subst (λ (z : Course X). AllHear (table_of scope) (answers_of book scope.request.connection v) z.flight.rows) (sym e) (subst (AllHear (table_of scope) (answers_of book scope.request.connection v)) (sym begins.1.rows) tt),
     )
     agrees_by (Bad text) e = tt
+
+-- ---- where it stands
+
+pub begun_state_at : {X : Type 0} (scope : ScanScope) (d : Course X) (version : Version) → BeginsAt scope version d → state_of scope d ≡ state_at (table_of scope) scope.request version
+begun_state_at scope d (Is v) begins = ap (state_of scope) begins.2 ∙ ap (λ (st : Scan). record st { end = None }) begins.1.state ∙ none_by (table_of scope) scope.request scope.request.access
+begun_state_at scope d (Bad text) begins = ap (state_of scope) begins.2 ∙ ap (λ (st : Scan). record st { end = Some (Failed 0 None (BadVersion text)) }) begins.1.state
+
+begun_place : {X : Type 0} (scope : ScanScope) (d : Course X) (version : Version) → BeginsAt scope version d → d.end ≡ None → IsOpen (table_of scope) scope.request (state_of scope d)
+begun_place scope d (Is v) begins on = subst (IsOpen (table_of scope) scope.request) (sym (begun_state_at scope d (Is v) begins)) (begun_waits (table_of scope) scope.request scope.request.access)
+begun_place {X} scope d (Bad text) begins on = let bad : None ≡ Some _ = sym on ∙ ap (λ (z : Course X). z.end) begins.2 in absurd (cc)
+
+pub begun_is_waiting : {X : Type 0} (scope : ScanScope) (d : Course X) (version : Version) (window : ℕ) (wanting : Bool) → BeginsAt scope version d → scope.window ≡ window → 1 ≤ window → Waits scope d wanting
+begun_is_waiting scope d version window wanting begins of some = record { room = subst (λ (n : ℕ). 1 ≤ n) (sym of) some; place = λ w on. begun_place scope d version begins on }
+
+pub begun_at_state : {X : Type 0} (scope : ScanScope) (d : Course X) (request : ScanRequest) (table : TableDecl) (version told : Version) → BeginsAt scope version d → scope.request ≡ request → table_of scope ≡ table → version ≡ told
+    → state_of scope d ≡ state_at table request told
+begun_at_state scope d request table version told begins of_request of_table same =
+    begun_state_at scope d version begins ∙ ap (λ (t : TableDecl). state_at t scope.request version) of_table ∙ ap (λ (r : ScanRequest). state_at table r version) of_request ∙ ap (state_at table request) same
 
 -- ---- for the functions that begin a scan
 

@@ -1,6 +1,6 @@
 -- What holds of a scan's parts stays as its calls are listed and pieces of their replies come.
-use Rattle.std.proofs.Common.{◌≡◌, ◌⊎◌, inl, inr, ℕ, Bool, true, List, [], ◌++◌, length, take, drop, Option, Some, None, IsTrue, refl, sym, ap, subst, ◌∙◌}
-use Rattle.std.proofs.lemmas.List.{length-map}
+use Rattle.std.proofs.Common.{◌≡◌, ◌⊎◌, inl, inr, ℕ, Bool, true, List, [], ◌∷◌, ◌++◌, length, take, drop, Option, Some, None, IsTrue, refl, sym, ap, subst, ◌∙◌, append_assoc}
+use Rattle.std.proofs.lemmas.List.{length-map, append-nil}
 use Rattle.sp_value.specs.declared.cell.Cell.{Cell}
 use Rattle.sp_model.specs.Book.{Book}
 use Rattle.sp_model.specs.RowOf.{columns_named}
@@ -8,6 +8,7 @@ use Rattle.sp_model.specs.Settling.{Answers, answers_of}
 use Rattle.sp_model.specs.Requests.{IsRequestOf}
 use Rattle.sp_model.specs.declared.call.Asked.{Asked}
 use Rattle.sp_model.specs.declared.call.Asked.TheVariants as asks
+use Rattle.sp_model.specs.declared.call.Call.{Call}
 use Rattle.sp_model.specs.declared.call.Call.TheVariants as calls
 use Rattle.sp_model.specs.declared.call.CallKey.{CallKey}
 use Rattle.sp_model.specs.declared.call.Piece.{Piece}
@@ -23,27 +24,30 @@ use Rattle.model_laws.specs.LawfulScans.{is_lawful_scan}
 use Rattle.row_flight.proofs.Going.{flight_goes_on}
 use Rattle.row_flight.specs.Flying.{Seated, InFlight, IsOf, rows_of, heard_at}
 use Rattle.row_flight.specs.Hearing.{IsPieceOfSeen, AllHear}
-use Rattle.row_flight.specs.Jobs.{DifferInListed}
+use Rattle.row_flight.specs.Jobs.{DifferInListed, made_of}
 use Rattle.row_flight.specs.declared.frame.Wanted.{Wanted}
 use Rattle.scan_laws.proofs.Stepping.{inner_is_listed, outer_is_listed}
 use Rattle.scan_laws.specs.Flights.{AreApart}
-use Rattle.scan_laws.specs.Scans.{Agrees, items_of}
-use Rattle.scan_laws.specs.States.{Outer, Inner}
+use Rattle.scan_laws.specs.Reaching.{Made}
+use Rattle.scan_laws.specs.Scans.{Agrees, Keeps, items_of}
+use Rattle.scan_laws.specs.States.{Outer, Inner, Scan}
 use Rattle.scan_laws.specs.Steps.{flown}
 use Rattle.scan_core.proofs.HeardRows.{heard_items}
-use Rattle.scan_core.proofs.Keeping.{advance_keeps, inner_hears, outer_hears}
+use Rattle.scan_core.proofs.Keeping.{advance_keeps, inner_hears, outer_hears, keeps_none, keeps_then}
 use Rattle.scan_core.proofs.Listed.{items_state, parents_state, differ_items}
 use Rattle.scan_core.specs.Calls.{inner_of, inner_view, outer_of, outer_view}
 use Rattle.scan_core.specs.Courses.{end_view, state_of, table_of, IsCourse}
 use Rattle.scan_core.specs.Going.{IsIn}
 use Rattle.scan_core.specs.Hearing.{AwaitsBy, HearsBy, TakesIn, StandsStill, seat_of}
-use Rattle.scan_core.specs.Listing.{items_listed, parents_listed, CallLists, ListsNone, ListsItems, ListsParents, CourseLists}
+use Rattle.scan_core.specs.Laws.{IsOpen}
+use Rattle.scan_core.specs.Listing.{items_slot, items_function, items_listed, parents_listed, wanted_of, CallLists, ListsNone, ListsItems, ListsParents, CourseLists}
 use Rattle.scan_core.specs.declared.course.Course.{Course}
 use Rattle.scan_core.specs.declared.course.CourseEnd.{CourseEnd}
 use Rattle.scan_core.specs.declared.scope.ScanScope.{ScanScope}
 use Rattle.scan_core.specs.declared.seat.SeatOf.{SeatOf}
 use Rattle.scan_core.specs.declared.seat.SeatOf.TheVariants.{Items, Parents, Row}
 use Rattle.one_scan.proofs.Lawful.{items_some, access_lawful, functions_apart}
+use Rattle.one_scan.proofs.Places.{inner_waits, outer_waits, flown_waits}
 use Rattle.one_scan.proofs.RowForms.{listed_rows_form, heard_rows_form, goes_form, goes_hear}
 use Rattle.one_scan.proofs.StateForms.{advances_form, listed_form, outer_listed_form, flown_form, heard_form, outer_heard_form}
 use Rattle.one_scan.specs.Forms.{IsStateForm, IsPlanForm, IsRowForm, IsForm}
@@ -59,43 +63,63 @@ flown_state scope c d rest items =
 
 -- ---- calls are listed
 
+made_append : (xs ys : List Wanted) → made_of (xs ++ ys) ≡ made_of xs ++ made_of ys
+made_append [] ys = refl
+made_append (x ∷ xs) ys = ap (λ (made : List Made). (x.call.call, x.call.attempt) ∷ made) (made_append xs ys)
+
 -- a call is listed, and no row changes
-pub record CallGoes {X : Type 0} (scope : ScanScope) (c m : Course X) : Type 0 where
+pub record CallGoes {X : Type 0} (scope : ScanScope) (c m : Course X) (before after : List Wanted) : Type 0 where
+  pub more : List Wanted
+  pub grows : after ≡ before ++ more
   pub flight : m.flight ≡ c.flight
   pub walk : m.walk ≡ c.walk
   pub end : m.end ≡ c.end
   pub form : IsStateForm (table_of scope) scope.request (state_of scope c) → IsStateForm (table_of scope) scope.request (state_of scope m)
-  pub agrees : (answers : Answers) → Agrees (table_of scope) scope.request answers (state_of scope c) → (state_of scope c).end ≡ None → Agrees (table_of scope) scope.request answers (state_of scope m)
+  pub keeps : (answers : Answers) → Agrees (table_of scope) scope.request answers (state_of scope c) → (state_of scope c).end ≡ None → Keeps (table_of scope) scope.request answers (state_of scope c) (state_of scope m) (made_of more)
+  pub waits : IsOpen (table_of scope) scope.request (state_of scope c) → IsOpen (table_of scope) scope.request (state_of scope m)
 
-pub call_goes : {X : Type 0} (scope : ScanScope) (scan : ℕ) (c m : Course X) (before after : List Wanted) → CallLists scope scan c m before after → CallGoes scope c m
-call_goes {X} scope scan c m before after (ListsNone same jobs) = record {
+pub call_goes : {X : Type 0} (scope : ScanScope) (scan : ℕ) (c m : Course X) (before after : List Wanted) → IsCourse scope c → CallLists scope scan c m before after → CallGoes scope c m before after
+call_goes {X} scope scan c m before after course (ListsNone same jobs) = record {
+  more = [];
+  grows = jobs ∙ sym (append-nil before);
   flight = ap (λ z. z.flight) same;
   walk = ap (λ z. z.walk) same;
   end = ap (λ z. z.end) same;
   form = λ f. subst (λ (z : Course X). IsStateForm (table_of scope) scope.request (state_of scope z)) (sym same) f;
-  agrees = λ answers a on. subst (λ (z : Course X). Agrees (table_of scope) scope.request answers (state_of scope z)) (sym same) a;
+  keeps = λ answers a on. keeps_none (table_of scope) scope.request answers (state_of scope c) (state_of scope m) (ap (state_of scope) same) a;
+  waits = λ w. subst (λ (z : Course X). IsOpen (table_of scope) scope.request (state_of scope z)) (sym same) w;
 }
-call_goes {X} scope scan c m before after (ListsItems i is off new put) =
+call_goes {X} scope scan c m before after course (ListsItems i is off new put) =
     let state = ap (state_of scope) new ∙ items_state scope c i (items_listed i) refl in
     let inner : (state_of scope c).inner ≡ Some (inner_of scope.items c.walk i) = ap (inner_view scope.items c.walk) is in
     record {
+      more = wanted_of i.call scan (items_slot scope.request.access) (items_function scope.request.access) ∷ [];
+      grows = put;
       flight = ap (λ z. z.flight) new;
       walk = ap (λ z. z.walk) new;
       end = ap (λ z. z.end) new;
       form = λ f. subst (IsStateForm (table_of scope) scope.request) (sym state) (listed_form (table_of scope) scope.request (state_of scope c) (inner_of scope.items c.walk i) inner f);
-      agrees = λ answers a on. subst (Agrees (table_of scope) scope.request answers) (sym state) (inner_is_listed (table_of scope) scope.request answers (state_of scope c) (inner_of scope.items c.walk i) a on inner off).agrees;
+      keeps = λ answers a on.
+          subst (λ (st : Scan). Keeps (table_of scope) scope.request answers (state_of scope c) st ((i.call.stream.call.call, i.call.stream.call.attempt) ∷ [])) (sym state)
+          (inner_is_listed (table_of scope) scope.request answers (state_of scope c) (inner_of scope.items c.walk i) a on inner off);
+      waits = λ w. subst (IsOpen (table_of scope) scope.request) (sym state) (inner_waits (table_of scope) scope.request (state_of scope c) (inner_of scope.items c.walk i) inner w);
     }
-call_goes {X} scope scan c m before after (ListsParents o closed is off new put) =
+call_goes {X} scope scan c m before after course (ListsParents o closed is off new put) =
     let state = ap (state_of scope) new ∙ parents_state scope c o (parents_listed o) refl in
     let outer : (state_of scope c).outer ≡ Some (outer_of o) = ap outer_view is in
+    let none : (state_of scope c).inner ≡ None = ap (inner_view scope.items c.walk) closed in
     record {
+      more = wanted_of o.call scan 0 64 ∷ [];
+      grows = put;
       flight = ap (λ z. z.flight) new;
       walk = ap (λ z. z.walk) new;
       end = ap (λ z. z.end) new;
       form = λ f. subst (IsStateForm (table_of scope) scope.request) (sym state) (outer_listed_form (table_of scope) scope.request (state_of scope c) (outer_of o) outer f);
-      agrees = λ answers a on.
-          subst (Agrees (table_of scope) scope.request answers) (sym state)
-          (outer_is_listed (table_of scope) scope.request answers (state_of scope c) (outer_of o) a on outer (ap (inner_view scope.items c.walk) closed) off).agrees;
+      keeps = λ answers a on.
+          subst (λ (asked : Call). Keeps (table_of scope) scope.request answers (state_of scope c) (state_of scope m) ((asked, o.call.stream.call.attempt) ∷ [])) (sym (course.parents o is).asked)
+          (subst (λ (st : Scan). Keeps (table_of scope) scope.request answers (state_of scope c) st ((calls.Parents (table_of scope).name, o.call.stream.call.attempt) ∷ [])) (sym state)
+          (outer_is_listed (table_of scope) scope.request answers (state_of scope c) (outer_of o) a on outer none off));
+      waits = λ w. subst (IsOpen (table_of scope) scope.request) (sym state) (outer_waits (table_of scope) scope.request (state_of scope c) (outer_of o) outer none w);
     }
 
 -- ---- pieces
@@ -113,9 +137,9 @@ told_seen book connection version key p at of told =
 module _ {X : Type 0} (scope : ScanScope) where
   -- ---- after calls are listed
 
-  listed_form_on : (scan : ℕ) (c d : Course X) (before after : List Wanted) → CourseLists scope scan c d before after → IsForm scope c → IsForm scope d
-  listed_form_on scan c d before after l f =
-      let goes = call_goes scope scan c l.mid before l.jobs l.call in
+  listed_form_on : (scan : ℕ) (c d : Course X) (before after : List Wanted) → CourseLists scope scan c d before after → IsCourse scope c → IsForm scope c → IsForm scope d
+  listed_form_on scan c d before after l course f =
+      let goes = call_goes scope scan c l.mid before l.jobs course l.call in
       let differ : DifferInListed c.flight.rows d.flight.rows = subst (λ (z : InFlight). DifferInListed z.rows d.flight.rows) goes.flight l.rows.differ in
       let plan : d.flight.plan ≡ c.flight.plan = l.rows.plan ∙ ap (λ (z : InFlight). z.plan) goes.flight in
       let frame : d.flight.frame ≡ c.flight.frame = l.rows.frame ∙ ap (λ (z : InFlight). z.frame) goes.flight in
@@ -128,19 +152,44 @@ module _ {X : Type 0} (scope : ScanScope) where
         version = ap (λ z. z.version) frame ∙ f.version;
       }
 
-  listed_agrees : (scan : ℕ) (c d : Course X) (before after : List Wanted) (answers : Answers) → CourseLists scope scan c d before after → IsCourse scope c → AreApart (table_of scope) → (state_of scope c).end ≡ None
-      → Agrees (table_of scope) scope.request answers (state_of scope c) → AllHear (table_of scope) answers c.flight.rows → Agrees (table_of scope) scope.request answers (state_of scope d) × AllHear (table_of scope) answers d.flight.rows
-  listed_agrees scan c d before after answers l form apart on a hear =
-      let goes = call_goes scope scan c l.mid before l.jobs l.call in
+  -- the calls that come to the end of the list
+  abbrev pub more_of : (scan : ℕ) (c d : Course X) (before after : List Wanted) → IsCourse scope c → CourseLists scope scan c d before after → List Wanted
+  more_of scan c d before after course l = (call_goes scope scan c l.mid before l.jobs course l.call).more ++ l.rows.more
+
+  pub more_grows : (scan : ℕ) (c d : Course X) (before after : List Wanted) (course : IsCourse scope c) (l : CourseLists scope scan c d before after) → after ≡ before ++ more_of scan c d before after course l
+  more_grows scan c d before after course l =
+      let goes = call_goes scope scan c l.mid before l.jobs course l.call in
+      l.rows.grows ∙ ap (λ (ws : List Wanted). ws ++ l.rows.more) goes.grows ∙ append_assoc before goes.more l.rows.more
+
+  pub listed_keeps : (scan : ℕ) (c d : Course X) (before after : List Wanted) (answers : Answers) (course : IsCourse scope c) (l : CourseLists scope scan c d before after) → AreApart (table_of scope) → (state_of scope c).end ≡ None
+      → Agrees (table_of scope) scope.request answers (state_of scope c) → AllHear (table_of scope) answers c.flight.rows
+      → Keeps (table_of scope) scope.request answers (state_of scope c) (state_of scope d) (made_of (more_of scan c d before after course l)) × AllHear (table_of scope) answers d.flight.rows
+  listed_keeps scan c d before after answers course l apart on a hear =
+      let goes = call_goes scope scan c l.mid before l.jobs course l.call in
       let m = l.mid in
-      let agrees : Agrees (table_of scope) scope.request answers (state_of scope m) = goes.agrees answers a on in
-      let of : IsOf (table_of scope) scope.request m.flight = subst (IsOf (table_of scope) scope.request) (sym goes.flight) form.flight in
+      let first : Keeps (table_of scope) scope.request answers (state_of scope c) (state_of scope m) (made_of goes.more) = goes.keeps answers a on in
+      let of : IsOf (table_of scope) scope.request m.flight = subst (IsOf (table_of scope) scope.request) (sym goes.flight) course.flight in
       let hears : AllHear (table_of scope) answers m.flight.rows = subst (λ (z : InFlight). AllHear (table_of scope) answers z.rows) (sym goes.flight) hear in
-      let keeps = l.rows.keeps (table_of scope) scope.request answers of apart agrees.rows hears in
+      let keeps = l.rows.keeps (table_of scope) scope.request answers of apart first.agrees.rows hears in
       let still : (state_of scope m).end ≡ None = ap (λ (z : Option CourseEnd). end_view m.walk z) goes.end ∙ ap (λ w. end_view w c.end) goes.walk ∙ on in
-      let flies = flight_goes_on (table_of scope) scope.request answers (state_of scope m) m.flight.rows d.flight.rows _ agrees still refl keeps in
+      let flies = flight_goes_on (table_of scope) scope.request answers (state_of scope m) m.flight.rows d.flight.rows (made_of l.rows.more) first.agrees still refl keeps in
       let state : state_of scope d ≡ flown (state_of scope m) (rows_of d.flight) = flown_state scope m d l.rest (differ_items m.flight.rows d.flight.rows l.rows.differ) in
-      (subst (Agrees (table_of scope) scope.request answers) (sym state) flies.agrees, keeps.hear)
+      let next : Keeps (table_of scope) scope.request answers (state_of scope m) (state_of scope d) (made_of l.rows.more) =
+      subst (λ (st : Scan). Keeps (table_of scope) scope.request answers (state_of scope m) st (made_of l.rows.more)) (sym state) flies in (
+        subst (Keeps (table_of scope) scope.request answers (state_of scope c) (state_of scope d)) (sym (made_append goes.more l.rows.more))
+            (keeps_then (table_of scope) scope.request answers (state_of scope c) (state_of scope m) (state_of scope d) (made_of goes.more) (made_of l.rows.more) first next),
+        keeps.hear,
+      )
+
+  pub listed_waits : (scan : ℕ) (c d : Course X) (before after : List Wanted) → IsCourse scope c → CourseLists scope scan c d before after → IsOpen (table_of scope) scope.request (state_of scope c) → IsOpen (table_of scope) scope.request (state_of scope d)
+  listed_waits scan c d before after course l w =
+      let goes = call_goes scope scan c l.mid before l.jobs course l.call in
+      let m = l.mid in
+      let state : state_of scope d ≡ flown (state_of scope m) (rows_of d.flight) = flown_state scope m d l.rest (differ_items m.flight.rows d.flight.rows l.rows.differ) in
+      subst (IsOpen (table_of scope) scope.request) (sym state) (flown_waits (table_of scope) scope.request (state_of scope m) m.flight.rows d.flight.rows refl l.rows.differ (goes.waits w))
+
+  pub listed_end : (scan : ℕ) (c d : Course X) (before after : List Wanted) → IsCourse scope c → CourseLists scope scan c d before after → d.end ≡ c.end
+  listed_end scan c d before after course l = ap (λ z. z.end) l.rest ∙ (call_goes scope scan c l.mid before l.jobs course l.call).end
 
   -- ---- after a piece came
 
@@ -189,9 +238,13 @@ module _ {X : Type 0} (scope : ScanScope) where
     abbrev Good : Course X → Type 0
     Good c = Agrees (table_of scope) scope.request (answers_of book scope.request.connection version) (state_of scope c) × AllHear (table_of scope) (answers_of book scope.request.connection version) c.flight.rows
 
-    heard_good : (kind : SeatOf) (c m : Course X) (seat : Seat) (asked : Asked) (p : Piece) (tick : ℕ) → IsCourse scope c → c.flight.frame.connection ≡ scope.request.connection → c.flight.frame.version ≡ scope.version → (state_of scope c).end ≡ None
-        → AwaitsBy kind scope c seat asked p → HearsBy kind scope c seat asked p tick m → IsToldPiece book asked p → Good c → Good m
-    heard_good Items c m seat asked p tick form connection of on w h told g =
+    -- it goes on agreeing, and lists nothing
+    abbrev Went : Course X → Course X → Type 0
+    Went c m = Keeps (table_of scope) scope.request (answers_of book scope.request.connection version) (state_of scope c) (state_of scope m) [] × AllHear (table_of scope) (answers_of book scope.request.connection version) m.flight.rows
+
+    heard_went : (kind : SeatOf) (c m : Course X) (seat : Seat) (asked : Asked) (p : Piece) (tick : ℕ) → IsCourse scope c → c.flight.frame.connection ≡ scope.request.connection → c.flight.frame.version ≡ scope.version → (state_of scope c).end ≡ None
+        → AwaitsBy kind scope c seat asked p → HearsBy kind scope c seat asked p tick m → IsToldPiece book asked p → Good c → Went c m
+    heard_went Items c m seat asked p tick form connection of on w h told g =
         let i = w.0 in
         let call = (form.items i w.1).call in
         let seen : IsPieceOfSeen ((answers_of book scope.request.connection version) i.call.stream.call.call i.call.stream.call.attempt) p =
@@ -199,10 +252,10 @@ module _ {X : Type 0} (scope : ScanScope) where
         let is : Some (inner_of scope.items c.walk i) ≡ Some h.0.0 = sym (ap (inner_view scope.items c.walk) w.1) ∙ h.0.1 in
         let same : inner_of scope.items c.walk i ≡ h.0.0 = cc in
         let seen_here : IsPieceOfSeen ((answers_of book scope.request.connection version) h.0.0.asked h.0.0.attempt) p = subst (λ (z : Inner). IsPieceOfSeen ((answers_of book scope.request.connection version) z.asked z.attempt) p) same seen in (
-          subst (Agrees (table_of scope) scope.request (answers_of book scope.request.connection version)) (sym h.0.2) (inner_hears (table_of scope) scope.request (answers_of book scope.request.connection version) (state_of scope c) h.0.0 p g.0 on h.0.1 h.0.3 seen_here).agrees,
+          subst (λ (st : Scan). Keeps (table_of scope) scope.request (answers_of book scope.request.connection version) (state_of scope c) st []) (sym h.0.2) (inner_hears (table_of scope) scope.request (answers_of book scope.request.connection version) (state_of scope c) h.0.0 p g.0 on h.0.1 h.0.3 seen_here),
           subst (λ (z : InFlight). AllHear (table_of scope) (answers_of book scope.request.connection version) z.rows) (sym h.1) g.1,
         )
-    heard_good Parents c m seat asked p tick form connection of on w h told g =
+    heard_went Parents c m seat asked p tick form connection of on w h told g =
         let o = w.0 in
         let pf = form.parents o w.1 in
         let seen : IsPieceOfSeen ((answers_of book scope.request.connection version) o.call.stream.call.call o.call.stream.call.attempt) p =
@@ -212,10 +265,10 @@ module _ {X : Type 0} (scope : ScanScope) where
         let seen_here : IsPieceOfSeen ((answers_of book scope.request.connection version) (calls.Parents (table_of scope).name) h.0.0.attempt) p =
         subst (λ (z : Outer). IsPieceOfSeen ((answers_of book scope.request.connection version) (calls.Parents (table_of scope).name) z.attempt) p) same
         (subst (λ z. IsPieceOfSeen ((answers_of book scope.request.connection version) z o.call.stream.call.attempt) p) pf.asked seen) in (
-          subst (Agrees (table_of scope) scope.request (answers_of book scope.request.connection version)) (sym h.0.2) (outer_hears (table_of scope) scope.request (answers_of book scope.request.connection version) (state_of scope c) h.0.0 p g.0 on h.0.1 h.0.3 seen_here).agrees,
+          subst (λ (st : Scan). Keeps (table_of scope) scope.request (answers_of book scope.request.connection version) (state_of scope c) st []) (sym h.0.2) (outer_hears (table_of scope) scope.request (answers_of book scope.request.connection version) (state_of scope c) h.0.0 p g.0 on h.0.1 h.0.3 seen_here),
           subst (λ (z : InFlight). AllHear (table_of scope) (answers_of book scope.request.connection version) z.rows) (sym h.1) g.1,
         )
-    heard_good Row c m seat asked p tick form connection of on w h told g =
+    heard_went Row c m seat asked p tick form connection of on w h told g =
         let key = w.0 in
         let seen : IsPieceOfSeen ((answers_of book scope.request.connection version) key.call key.attempt) p =
         told_seen book scope.request.connection version key p (w.2.connection ∙ connection) (w.2.version ∙ of ∙ at) (subst (λ (z : Asked). IsToldPiece book z p) w.1 told) in
@@ -223,13 +276,14 @@ module _ {X : Type 0} (scope : ScanScope) where
         let rest : m ≡ record c { flight = m.flight } = h.0 ∙ ap (λ (z : InFlight). record c { flight = z }) (sym (ap (λ z. z.flight) h.0)) in
         let items : items_of (rows_of m.flight) ≡ items_of (rows_of c.flight) = keeps.items in
         let flies = flight_goes_on (table_of scope) scope.request (answers_of book scope.request.connection version) (state_of scope c) c.flight.rows m.flight.rows [] g.0 on refl keeps in
-        (subst (Agrees (table_of scope) scope.request (answers_of book scope.request.connection version)) (sym (flown_state scope c m rest items)) flies.agrees, keeps.hear)
+        (subst (λ (st : Scan). Keeps (table_of scope) scope.request (answers_of book scope.request.connection version) (state_of scope c) st []) (sym (flown_state scope c m rest items)) flies, keeps.hear)
 
-    takes_good : (c d : Course X) (seat : Seat) (asked : Asked) (p : Piece) (tick : ℕ) → IsCourse scope c → c.flight.frame.connection ≡ scope.request.connection → c.flight.frame.version ≡ scope.version → TakesIn scope c seat asked p tick d → IsToldPiece book asked p → Good c → Good d
-    takes_good c d seat asked p tick form connection of t told g =
+    pub takes_went : (c d : Course X) (seat : Seat) (asked : Asked) (p : Piece) (tick : ℕ) → IsCourse scope c → c.flight.frame.connection ≡ scope.request.connection → c.flight.frame.version ≡ scope.version → TakesIn scope c seat asked p tick d → IsToldPiece book asked p → Good c → Went c d
+    takes_went c d seat asked p tick form connection of t told g =
         let on : (state_of scope c).end ≡ None = ap (end_view c.walk) t.going in
-        let mid = heard_good (seat_of scope.request.access seat.function) c t.mid seat asked p tick form connection of on t.hears.awaited t.hears.heard told g in (
-          (advance_keeps (table_of scope) scope.request scope.window (answers_of book scope.request.connection version) (state_of scope t.mid) (state_of scope d) apart mid.0 t.advances).agrees,
+        let mid = heard_went (seat_of scope.request.access seat.function) c t.mid seat asked p tick form connection of on t.hears.awaited t.hears.heard told g in (
+          keeps_then (table_of scope) scope.request (answers_of book scope.request.connection version) (state_of scope c) (state_of scope t.mid) (state_of scope d) [] [] mid.0
+              (advance_keeps (table_of scope) scope.request scope.window (answers_of book scope.request.connection version) (state_of scope t.mid) (state_of scope d) apart mid.0.agrees t.advances),
           goes_hear (table_of scope) (answers_of book scope.request.connection version) t.mid d t.goes mid.1,
         )
 
@@ -240,7 +294,7 @@ pub listed_scan : {X : Type 0} (tells : Bool) (book : Book) (scope : ScanScope) 
 listed_scan {X} tells book scope scan c d version asked before after s course l open_end = record {
   sources = s.sources;
   course = course;
-  form = listed_form_on scope scan c d before after l s.form;
+  form = listed_form_on scope scan c d before after l s.course s.form;
   at = at_by version s.at;
   sayable = s.sayable;
   made = s.made;
@@ -255,7 +309,8 @@ listed_scan {X} tells book scope scan c d version asked before after s course l 
 
     agrees_by : (v : Version) → AgreesWith book v scope c → AgreesWith book v scope d
     agrees_by (Is v) g =
-        listed_agrees scope scan c d before after (answers_of book scope.request.connection v) l s.course (functions_apart (table_of scope) scope.request s.lawful) (ap (end_view c.walk) open_end) g.0 g.1
+        let keeps = listed_keeps scope scan c d before after (answers_of book scope.request.connection v) s.course l (functions_apart (table_of scope) scope.request s.lawful) (ap (end_view c.walk) open_end) g.0 g.1 in
+        (keeps.0.agrees, keeps.1)
     agrees_by (Bad text) g = tt
 
 -- the columns of a request are as many as those of its table by their names
@@ -282,7 +337,9 @@ taken_scan {X} tells book scope c d version asked seat of p tick s course sound 
     at_by (Bad text) a = let bad : None ≡ Some _ = sym t.going ∙ a in absurd (cc)
 
     agrees_by : IsToldPiece book of p → (v : Version) → IsAt v scope c → AgreesWith book v scope c → AgreesWith book v scope d
-    agrees_by told (Is v) a g = takes_good scope book v (functions_apart (table_of scope) scope.request s.lawful) a c d seat of p tick s.course s.form.connection s.form.version t told g
+    agrees_by told (Is v) a g =
+        let went = takes_went scope book v (functions_apart (table_of scope) scope.request s.lawful) a c d seat of p tick s.course s.form.connection s.form.version t told g in
+        (went.0.agrees, went.1)
     agrees_by told (Bad text) a g = tt
 
 -- nothing happened

@@ -17,7 +17,6 @@ use Rattle.sp_world.specs.declared.kept_scan.KeptScan.{KeptScan}
 use Rattle.scan_laws.proofs.Stepping.{result_is}
 use Rattle.scan_laws.specs.Scans.{value_of}
 use Rattle.scan_core.specs.Courses.{end_view, state_of, table_of}
-use Rattle.scan_core.specs.Hearing.{StandsStill}
 use Rattle.scan_core.specs.declared.course.Course.{Course}
 use Rattle.scan_core.specs.declared.course.CourseEnd.{CourseEnd}
 use Rattle.scan_core.specs.declared.course.CourseEnd.TheVariants.{Complete, Limited, Failed as FailedAt}
@@ -85,6 +84,7 @@ module _ {X : Type 0} (book : Book) (scope : ScanScope) (c : Course X) where
   is_formed tells version asked wanting s = record {
     made = s.made;
     tick = s.tick;
+    end = refl;
     cells = λ rows k row e at. wide_get (length scope.request.columns) rows k row (subst (AreWide (length scope.request.columns)) (its_rows c.end rows e) s.form.state.rows) at;
   }
 
@@ -125,17 +125,3 @@ same_open scope c d version asked a b none =
 
 pub same_still : {X : Type 0} (scope : ScanScope) (c d : Course X) (version : Version) (asked : ℕ) (a b : Bool) → state_of scope d ≡ state_of scope c → SameScan (view_of scope c version asked a) (view_of scope d version asked b)
 same_still scope c d version asked a b e = same_scan scope c d version asked a b (λ v is. ap (λ st. value_of st.end) e ∙ is)
-
--- the view of a scan that stands as it did
-pub still_view : {X : Type 0} (scope : ScanScope) (c d : Course X) (version : Version) (asked : ℕ) (wanting : Bool) → StandsStill scope c d → view_of scope d version asked wanting ≡ view_of scope c version asked wanting
-still_view scope c d version asked wanting still = λ i. record {
-  request = scope.request;
-  table = table_of scope;
-  version = version;
-  asked = asked;
-  window = scope.window;
-  end = value_of (still.state i).end;
-  steady = (still.state i).now.steady;
-  complete = is_whole (still.end i);
-  wanting = wanting;
-}

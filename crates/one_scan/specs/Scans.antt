@@ -1,5 +1,5 @@
 -- For the model of a scan: what holds of its parts.
-use Rattle.std.specs.Prelude.{◌≡◌, ◌≤◌, ◌^◌, ℕ, Bool, true, false, [], Option, Some, None, IsTrue}
+use Rattle.std.specs.Prelude.{◌≡◌, ◌≤◌, ◌^◌, ℕ, Bool, true, false, [], Option, Some, None, option_map, IsTrue}
 use Rattle.sp_model.specs.Book.{Book}
 use Rattle.sp_model.specs.Requests.{IsRequestOf}
 use Rattle.sp_model.specs.Sayable.{IsSayableVersion}
@@ -11,14 +11,17 @@ use Rattle.decl_words.specs.BookTables.{book_table}
 use Rattle.model_laws.specs.LawfulScans.{is_lawful_scan}
 use Rattle.row_flight.specs.Hearing.{AllHear}
 use Rattle.scan_laws.specs.Scans.{Agrees, value_of}
+use Rattle.scan_laws.specs.States.{Scan}
 use Rattle.scan_laws.specs.Steps.{begin_of}
+use Rattle.scan_core.specs.Laws.{IsOpen}
 use Rattle.scan_core.specs.Courses.{end_view, state_of, table_of, IsScope, IsCourse}
+use Rattle.scan_core.specs.declared.calls.OpenCall.{OpenCall}
 use Rattle.scan_core.specs.declared.course.Course.{Course}
 use Rattle.scan_core.specs.declared.course.CourseEnd.{CourseEnd}
 use Rattle.scan_core.specs.declared.course.CourseEnd.TheVariants.{Complete, Limited, Failed as FailedAt}
 use Rattle.scan_core.specs.declared.scope.ScanScope.{ScanScope}
 use Rattle.one_scan.specs.Forms.{IsPlanForm, IsForm}
-use Rattle.one_scan.specs.Views.{ScanView}
+use Rattle.one_scan.specs.Views.{Present, Standing, ScanView}
 
 -- all calls came to their ending
 abbrev pub is_whole : Option CourseEnd → Bool
@@ -26,6 +29,12 @@ is_whole None = false
 is_whole (Some Complete) = true
 is_whole (Some Limited) = false
 is_whole (Some (FailedAt row column cause)) = false
+
+abbrev pub present_of : {X : Type 0} → OpenCall X → Present
+present_of c = record { stream = c.stream; listed = c.listed; due = c.due; generation = c.generation }
+
+abbrev pub standing_of : Scan → Standing
+standing_of st = record { outer = st.outer; inner = st.inner; first = st.first; inside = st.inside; waiting = st.waiting; now = st.now; end = st.end }
 
 abbrev pub view_of : {X : Type 0} → ScanScope → Course X → Version → ℕ → Bool → ScanView
 view_of scope c version asked wanting = record {
@@ -38,6 +47,10 @@ view_of scope c version asked wanting = record {
   steady = c.walk.steady;
   complete = is_whole c.end;
   wanting = wanting;
+  stands = standing_of (state_of scope c);
+  items = option_map (λ i. present_of i.call) c.items;
+  parents = option_map (λ o. present_of o.call) c.parents;
+  flight = c.flight;
 }
 
 -- the calls are of the version that was told; a bad one ends the scan before its first row
@@ -66,6 +79,11 @@ pub record IsScan {X : Type 0} (tells : Bool) (book : Book) (scope : ScanScope) 
   pub lawful : is_lawful_scan (table_of scope) scope.request ≡ true
   pub tick : asked ≤ 2 ^ 62
   pub told : IsTrue tells → IsTold book scope c version asked
+
+-- where memory isn't wanting the scan has gone on as far as what came leads, and waits for its first undecided place
+pub record Waits {X : Type 0} (scope : ScanScope) (c : Course X) (wanting : Bool) : Type 0 where
+  pub room : 1 ≤ scope.window
+  pub place : wanting ≡ false → c.end ≡ None → IsOpen (table_of scope) scope.request (state_of scope c)
 
 -- ---- the beginning
 

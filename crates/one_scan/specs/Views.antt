@@ -9,16 +9,40 @@ use Rattle.sp_model.specs.declared.call.Version.TheVariants.{Is, Bad}
 use Rattle.sp_model.specs.declared.declaration.TableDecl.{TableDecl}
 use Rattle.sp_model.specs.declared.outcome.ScanValue.{ScanValue}
 use Rattle.sp_model.specs.declared.outcome.ScanValue.TheVariants as value
+use Rattle.sp_model.specs.declared.outcome.Walk.{Walk}
+use Rattle.sp_model.specs.declared.outcome.WalkState.{WalkState}
 use Rattle.sp_model.specs.declared.scan.Cause.TheVariants.{BadVersion}
 use Rattle.sp_model.specs.declared.scan.Mark.TheVariants.{Fresh}
 use Rattle.sp_model.specs.declared.scan.ScanNote.{ScanNote}
 use Rattle.sp_model.specs.declared.scan.ScanRequest.{ScanRequest}
 use Rattle.decl_words.specs.BookTables.{book_table}
+use Rattle.row_stream.specs.Streams.{Stream}
+use Rattle.row_flight.specs.Flying.{InFlight, rows_of}
+use Rattle.scan_laws.specs.Scans.{value_of}
+use Rattle.scan_laws.specs.States.{Outer, Inner, Scan}
 use Rattle.one_scan.specs.declared.scan.ScanEnd.{ScanEnd}
 use Rattle.one_scan.specs.declared.scan.ScanEnd.TheVariants as end
 
+-- a get, list, child list or parents call in its present attempt: what came of it, whether it is listed, the tick before which it isn't sent, and the generation of its seat
+pub record Present : Type 0 where
+  pub stream : Stream
+  pub listed : Bool
+  pub due : ℕ
+  pub generation : ℕ
+
+-- where a scan stands, as its laws speak of it, but for the rows in flight
+pub record Standing : Type 0 where
+  pub outer : Option Outer
+  pub inner : Option Inner
+  pub first : List Cell
+  pub inside : List Cell
+  pub waiting : List Cell
+  pub now : WalkState
+  pub end : Option Walk
+
 -- what is asked of which table, at the version that was told at a tick; how many rows may be in flight; how the scan ends, once that is decided; of rows
--- whether no list, get or parents call was asked again, and whether all calls came to their ending; and whether memory was wanting
+-- whether no list, get or parents call was asked again, and whether all calls came to their ending; whether memory was wanting; where the scan stands; and its calls:
+-- the get, list or child list whose items are asked for, the parents call, and those of the rows in flight
 pub record ScanView : Type 0 where
   pub request : ScanRequest
   pub table : TableDecl
@@ -29,6 +53,23 @@ pub record ScanView : Type 0 where
   pub steady : Bool
   pub complete : Bool
   pub wanting : Bool
+  pub stands : Standing
+  pub items : Option Present
+  pub parents : Option Present
+  pub flight : InFlight
+
+-- where the scan stands with its rows in flight, as the laws of scans speak of it
+abbrev pub scan_state : ScanView → Scan
+scan_state s = record {
+  outer = s.stands.outer;
+  inner = s.stands.inner;
+  first = s.stands.first;
+  inside = s.stands.inside;
+  flight = rows_of s.flight;
+  waiting = s.stands.waiting;
+  now = s.stands.now;
+  end = s.stands.end;
+}
 
 -- the scan ended in rows
 abbrev pub AreRows : Option ScanValue → Type 0
@@ -44,10 +85,11 @@ pub record IsOfScan (book : Book) (s : ScanView) : Type 0 where
   pub steady : AreRows s.end → s.steady ≡ is_steady (walk_at book s.table s.request s.version)
   pub complete : AreRows s.end → s.complete ≡ is_complete (walk_at book s.table s.request s.version)
 
--- the request is made of the table, the tick is in range, and each row has one cell for each column of the request
+-- the request is made of the table, the tick is in range, the end is where the scan stands, and each row has one cell for each column of the request
 pub record IsScanForm (s : ScanView) : Type 0 where
   pub made : IsRequestOf s.table s.request
   pub tick : s.asked ≤ 2 ^ 62
+  pub end : s.end ≡ value_of s.stands.end
   pub cells : (rows : List (List Cell)) (k : ℕ) (row : List Cell) → s.end ≡ Some (value.Rows rows) → slice_get rows k ≡ Some row → length row ≡ length s.request.columns
 
 -- the same scan, some pieces later: its end stays once it has one

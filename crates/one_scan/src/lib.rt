@@ -6,6 +6,8 @@
 #![tactic(auto)]
 
 mod beginning;
+mod laws;
 mod scan;
 
+pub use laws::run_lists_what_is_used;
 pub use scan::{Scan, ScanEnd};

@@ -1,4 +1,4 @@
-ghost use Rattle.std.specs.Prelude.{◌≡◌, ◌≤◌, ◌^◌, true, false, None, Some, Err, IsTrue, IfOk, OnOk, OnErr};
+ghost use Rattle.std.specs.Prelude.{◌≡◌, ◌≤◌, ◌^◌, ◌++◌, [], List, true, false, None, Some, Err, IsSome, IsTrue, IfOk, OnOk, OnErr};
 ghost use Rattle.std.specs.Arc.{arc_value};
 ghost use Rattle.sp_model.specs.Requests.{IsRequestOf};
 ghost use Rattle.sp_model.specs.declared.call.Asked.TheVariants as asks;
@@ -6,11 +6,15 @@ ghost use Rattle.sp_model.specs.declared.outcome.ScanValue.TheVariants as value;
 ghost use Rattle.decl_words.specs.BookTables.{book_table};
 ghost use Rattle.decl_words.specs.Sound.{IsSound};
 ghost use Rattle.model_laws.specs.LawfulScans.{is_lawful_scan};
+ghost use Rattle.row_flight.specs.Jobs.{made_of};
 ghost use Rattle.row_flight.specs.declared.frame.Taken.TheVariants as taken;
+ghost use Rattle.row_flight.specs.declared.frame.Wanted.{Wanted};
 ghost use Rattle.one_scan.specs.Jobs.{Adds};
 ghost use Rattle.sp_model.specs.declared.scan.Mark.TheVariants.{Fresh};
+ghost use Rattle.one_scan.specs.Runs.{state_at, IsWaiting, IsListed, Goes};
 ghost use Rattle.one_scan.specs.Scans.{is_whole};
-ghost use Rattle.one_scan.specs.Views.{end_at, IsOfScan, IsScanForm, SameScan, AreRows, fresh_note, IsShown};
+ghost use Rattle.one_scan.specs.Views.{end_at, IsOfScan, IsScanForm, SameScan, AreRows, fresh_note, IsShown, scan_state};
+ghost use Rattle.one_scan.specs.Waiting.{WaitsFor, scan_due};
 
 use crate::beginning::{begun, number_of};
 use row_flight::{JobList, Taken};
@@ -91,7 +95,7 @@ fn kept_scan(
 impl<W: World> Model for Scan<W> {
     ghost use Rattle.std.specs.Coded.{codes};
     ghost use Rattle.sp_value.specs.contracts.cell.Cell as cells;
-    ghost use Rattle.one_scan.specs.Scans.{view_of, IsScan};
+    ghost use Rattle.one_scan.specs.Scans.{view_of, IsScan, Waits};
     ghost use Rattle.one_scan.specs.Views.{ScanView};
 
     ghost Value = { ScanView };
@@ -100,7 +104,7 @@ impl<W: World> Model for Scan<W> {
 
     ghost view = { λ s. view_of s.scope s.course s.version s.asked s.wanting };
 
-    ghost invariant = { λ s. IsScan W.tells W.book s.scope s.course s.version s.asked };
+    ghost invariant = { λ s. IsScan W.tells W.book s.scope s.course s.version s.asked × Waits s.scope s.course s.wanting };
 }
 
 impl<W: World> Scan<W> {
@@ -123,6 +127,7 @@ impl<W: World> Scan<W> {
         requires window { (1 ≤ window) × (window ≤ 4096) }
         ensures of { IfOk result (λ s. (s.request ≡ request) × (s.table ≡ arc_value table) × (s.version ≡ version.1) × (s.asked ≡ asked) × (s.window ≡ window) × (s.wanting ≡ false)) }
         ensures end { IfOk result (λ s. s.end ≡ end_at version.1) }
+        ensures state { IfOk result (λ s. scan_state s ≡ state_at (arc_value table) request version.1) }
     {
         let version = version.into_value();
         let scope = ScanScope::of(alloc, request, table, number_of(&version), window)?;
@@ -136,11 +141,13 @@ impl<W: World> Scan<W> {
         })
     }
 
-    /// Puts each call that is ready and wasn't listed before at the end of a list, as a call of the scan of this number. Once memory was
-    /// wanting it stays so.
+    /// Puts each call that is ready and wasn't listed before at the end of a list, as a call of the scan of this number. A scan that is
+    /// decided lists nothing. Once memory was wanting it stays so; the calls that stand there by then are listed.
     pub fn wanted(&mut self, alloc: Global, scan: u64, into: &mut JobList) -> Result<(), Memory>
         ensures same { SameScan self.old self.new }
         ensures adds { Adds self.new scan into.old into.new }
+        ensures goes { IsTrue W.tells → (more : List Wanted) → into.new ≡ into.old ++ more → Goes W.book self.old self.new (made_of more) }
+        ensures decided { IsSome self.old.end → (into.new ≡ into.old) × (scan_state self.new ≡ scan_state self.old) }
         ensures wanting { self.old.wanting ≡ true → result ≡ Err _ }
         ensures err { OnErr result (self.new.wanting ≡ true) }
     {
@@ -155,10 +162,13 @@ impl<W: World> Scan<W> {
     }
 
     /// Takes in a piece that was told of a call, at this tick, for the seat that waits for it. It is `Late` where no seat waits for it:
-    /// the scan is decided, the seat was given back or is of another call, the piece isn't next, or the call isn't listed.
+    /// the scan is decided, the seat was given back or is of another call, the piece isn't next, or the call isn't listed. Then nothing
+    /// changes.
     pub fn answered(&mut self, alloc: Global, seat: Seat, piece: Told<W, Piece>, tick: u64) -> Taken
         ensures same { SameScan self.old self.new }
-        ensures late { result ≡ taken.Late → self.new ≡ self.old }
+        ensures goes { IsTrue W.tells → Goes W.book self.old self.new [] }
+        ensures used { result ≡ taken.Used → WaitsFor self.old seat piece.0 piece.1 }
+        ensures late { result ≡ taken.Late → (WaitsFor self.old seat piece.0 piece.1 → ⊥) × (self.new ≡ self.old) }
         ensures wanting { self.old.wanting ≡ true → result ≡ taken.Memory }
         ensures memory { result ≡ taken.Memory → self.new.wanting ≡ true }
     {
@@ -176,14 +186,18 @@ impl<W: World> Scan<W> {
         }
     }
 
-    /// The least tick for which a call waits: one that was asked again, and of which no piece came since.
-    pub fn due(&self) -> Option<u64> {
+    /// The least tick for which a call waits: one that was asked again, and of which no piece came since. There is none once the scan is
+    /// decided.
+    pub fn due(&self) -> Option<u64>
+        ensures { result ≡ scan_due self.now }
+    {
         self.course.due(&self.scope)
     }
 
-    /// How the scan ends, once that is decided.
+    /// How the scan ends, once that is decided: without an end its first undecided place isn't answered, unless memory was wanting.
     pub fn result(&self) -> Option<ScanEnd<'_>>
         ensures shown { IsShown self.now.end result }
+        ensures waits { IsWaiting self.now }
         ensures form { IsScanForm self.now }
         ensures told { IsTrue W.tells → IsOfScan W.book self.now }
     {

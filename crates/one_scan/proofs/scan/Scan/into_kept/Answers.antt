@@ -9,7 +9,7 @@ pub of-requires-clause-form : goal.of-requires-clause-form
 of-requires-clause-form g c =
     let s = c.self.inside in
     let is = c.kept_scan.ensures ∙ ap (λ b. record { note = record { request = s.scope.request; asked = s.asked; at = s.asked; version = s.version; mark = Fresh }; rows = s.course.walk.rows; complete = b }) c.is_whole-complete.ensures in
-    subst IsKeptForm (sym is) (kept_form g.W.World.book s.scope s.course g.W.World.tells s.version s.asked c.self.invariant)
+    subst IsKeptForm (sym is) (kept_form g.W.World.book s.scope s.course g.W.World.tells s.version s.asked c.self.invariant.0)
 
 pub of-requires-clause-told : goal.of-requires-clause-told
 of-requires-clause-told g c = λ t.
@@ -17,7 +17,7 @@ of-requires-clause-told g c = λ t.
     let are = rw (← c.self.view_is) at c.requires.rows in
     let steady = rw (← c.self.view_is) at c.requires.steady in
     let is = c.kept_scan.ensures ∙ ap (λ b. record { note = record { request = s.scope.request; asked = s.asked; at = s.asked; version = s.version; mark = Fresh }; rows = s.course.walk.rows; complete = b }) c.is_whole-complete.ensures in
-    subst (IsKeptValue g.W.World.book) (sym is) (kept_told g.W.World.book s.scope s.course g.W.World.tells s.version s.asked c.self.invariant are steady t)
+    subst (IsKeptValue g.W.World.book) (sym is) (kept_told g.W.World.book s.scope s.course g.W.World.tells s.version s.asked c.self.invariant.0 are steady t)
 
 pub returns : goal.returns
 returns g c =
