@@ -118,6 +118,17 @@ module _ {X : Type 0} (scope : ScanScope) where
   pub is_waiting : (c : Course X) (version : Version) (asked : ℕ) (wanting : Bool) → Waits scope c wanting → IsWaiting (view_of scope c version asked wanting)
   is_waiting c version asked wanting w = λ off none. w.place off (none_ended c.walk c.end none)
 
+  -- ---- each call is listed
+
+  call_listed : (items : Option (ItemsCall X)) (parents : Option (ParentsCall X)) → core.CallIsListed items parents
+      → CallIsListed (option_map (λ (i : ItemsCall X). present_of i.call) items) (option_map (λ (o : ParentsCall X). present_of o.call) parents)
+  call_listed (Some i) parents l = l
+  call_listed None (Some o) l = l
+  call_listed None None l = l
+
+  pub all_listed : (c : Course X) (version : Version) (asked : ℕ) (wanting : Bool) → (c.end ≡ None → core.NoneIsLeft c) → IsListed (view_of scope c version asked wanting)
+  all_listed c version asked wanting all = λ none. let left = all (none_ended c.walk c.end none) in (call_listed c.items c.parents left.0, left.1)
+
   -- ---- a scan that is decided
 
   some_ended : (c : Course X) (o : Option CourseEnd) → IsSome (value_of (end_view c.walk o)) → IsSome o

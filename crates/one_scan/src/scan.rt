@@ -147,6 +147,7 @@ impl<W: World> Scan<W> {
         ensures same { SameScan self.old self.new }
         ensures adds { Adds self.new scan into.old into.new }
         ensures goes { IsTrue W.tells → (more : List Wanted) → into.new ≡ into.old ++ more → Goes W.book self.old self.new (made_of more) }
+        ensures all { OnOk result (IsListed self.new) }
         ensures decided { IsSome self.old.end → (into.new ≡ into.old) × (scan_state self.new ≡ scan_state self.old) }
         ensures wanting { self.old.wanting ≡ true → result ≡ Err _ }
         ensures err { OnErr result (self.new.wanting ≡ true) }

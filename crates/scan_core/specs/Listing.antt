@@ -1,8 +1,8 @@
 -- Calls of a scan that are listed.
-use Rattle.std.specs.Prelude.{◌≡◌, ℕ, true, false, List, [], ◌∷◌, ◌++◌, Some, None}
+use Rattle.std.specs.Prelude.{◌≡◌, ℕ, true, false, List, [], ◌∷◌, ◌++◌, Option, Some, None}
 use Rattle.sp_model.specs.declared.scan.Access.{Access}
 use Rattle.sp_model.specs.declared.scan.Access.TheVariants.{Get, List as OfList, Parents}
-use Rattle.row_flight.specs.Jobs.{Lists}
+use Rattle.row_flight.specs.Jobs.{IsAllListed, Lists}
 use Rattle.row_flight.specs.declared.frame.Wanted.{Wanted}
 use Rattle.scan_core.specs.declared.calls.ItemsCall.{ItemsCall}
 use Rattle.scan_core.specs.declared.calls.OpenCall.{OpenCall}
@@ -50,3 +50,13 @@ pub record CourseLists {X : Type 0} (scope : ScanScope) (scan : ℕ) (old new : 
   pub call : CallLists scope scan old mid before jobs
   pub rows : Lists scan mid.flight new.flight jobs after
   pub rest : new ≡ record mid { flight = new.flight }
+
+-- the call whose items are asked for is listed
+abbrev pub CallIsListed : {X : Type 0} → Option (ItemsCall X) → Option (ParentsCall X) → Type 0
+CallIsListed (Some i) parents = i.call.listed ≡ true
+CallIsListed None (Some o) = o.call.listed ≡ true
+CallIsListed None None = Unit {0}
+
+-- no call is ready and not listed
+abbrev pub NoneIsLeft : {X : Type 0} → Course X → Type 0
+NoneIsLeft c = CallIsListed c.items c.parents × IsAllListed c.flight

@@ -1,6 +1,6 @@
 ghost use Rattle.std.specs.Prelude.{◌≡◌, ◌∷◌, ◌++◌, [], true, false, Option, Some, None, IsSome, IfOk, OnOk, OnErr};
 ghost use Rattle.scan_core.specs.Courses.{IsCourse};
-ghost use Rattle.scan_core.specs.Listing.{items_slot, items_function, items_listed, parents_listed, IsPut, CallLists, CourseLists};
+ghost use Rattle.scan_core.specs.Listing.{items_slot, items_function, items_listed, parents_listed, IsPut, CallLists, CourseLists, CallIsListed, NoneIsLeft};
 ghost use Rattle.scan_core.specs.declared.calls.ItemsCall.{ItemsCall as Items};
 ghost use Rattle.scan_core.specs.declared.calls.ParentsCall.{ParentsCall as Parents};
 
@@ -168,6 +168,7 @@ impl<W: World> Course<W> {
     ) -> Result<(), Memory>
         requires { IsCourse scope.now self.old }
         ensures lists { CallLists scope.now scan self.old self.new into.old into.new }
+        ensures listed { OnOk result (CallIsListed self.new.items self.new.parents) }
         ensures form { IsCourse scope.now self.new }
     {
         match &self.items {
@@ -187,6 +188,7 @@ impl<W: World> Course<W> {
     ) -> Result<(), Memory>
         requires { IsCourse scope.now self.old }
         ensures lists { CourseLists scope.now scan self.old self.new into.old into.new }
+        ensures all { OnOk result (self.new.end ≡ None → NoneIsLeft self.new) }
         ensures form { IsCourse scope.now self.new }
         ensures decided { IsSome self.old.end → (self.new ≡ self.old) × (into.new ≡ into.old) }
     {

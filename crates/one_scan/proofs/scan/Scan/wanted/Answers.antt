@@ -1,6 +1,6 @@
 use Rattle.std.proofs.Common.{true, refl}
 use Rattle.one_scan.proofs.Added.{listed_any, added_any}
-use Rattle.one_scan.proofs.Telling.{same_list_goes, wanted_goes, waits_wanting, waits_listed}
+use Rattle.one_scan.proofs.Telling.{same_list_goes, wanted_goes, waits_wanting, waits_listed, all_listed}
 use Rattle.one_scan.proofs.scan.Scan.wanted.Goals as goal
 
 pub invariant_of-self : goal.invariant_of-self
@@ -45,3 +45,8 @@ pub returns-clause-goes : goal.returns-clause-goes
 returns-clause-goes g c = λ t more grows.
     let s = c.self.inside in
     rw (← c.self.view_is) (wanted_goes g.W.World.book s.scope s.asked s.wanting s.wanting g.W.World.tells s.course c.list.new.self s.version c.args.scan c.args.into.now c.list.new.into more c.self.invariant.0 c.list.ensures.lists c.list.ensures.decided t grows)
+
+pub returns-clause-all : goal.returns-clause-all
+returns-clause-all g c =
+    let s = c.self.inside in
+    all_listed s.scope c.list.new.self s.version s.asked s.wanting c.in-Ok.ensures.all
