@@ -46,11 +46,11 @@ impl Members<Cell> {
 pub fn copy_cells(alloc: Global, cells: &[Cell]) -> Result<Items<Cell>, Memory>
     ensures { IfOk result (λ cs. cs ≡ cells.now) }
 {
-    let mut copies = Items::new(alloc);
+    let mut copies = Vec::with_capacity(alloc, cells.len())?;
     for cell in cells {
         copies.push(copy_cell(alloc, cell)?)?;
     }
-    Ok(copies)
+    Ok(Items::from_vec(copies))
 }
 
 #[cycle(copy)]

@@ -61,11 +61,11 @@ impl TryCopy for Rows {
 
 impl<T: TryCopy> TryCopy for Items<T> {
     fn copy(&self, alloc: Global) -> Result<Items<T>, Memory> {
-        let mut copies = Items::new(alloc);
+        let mut copies = Vec::with_capacity(alloc, self.len())?;
         for item in self.as_slice() {
             copies.push(item.copy(alloc)?)?;
         }
-        Ok(copies)
+        Ok(Items::from_vec(copies))
     }
 }
 

@@ -150,11 +150,11 @@ fn convert_items(alloc: Global, items: &Vec<Value>) -> Result<Items<Cell>, Memor
     requires { items_odd (items_view items.now.items) ≡ false }
     ensures { IfOk result (λ cs. cells_of (items_view items.now.items) ≡ Some cs) }
 {
-    let mut cells = Items::new(alloc);
+    let mut cells = Vec::with_capacity(alloc, items.len())?;
     for item in items {
         cells.push(convert(alloc, item)?)?;
     }
-    Ok(cells)
+    Ok(Items::from_vec(cells))
 }
 
 #[cycle(convert)]
@@ -162,15 +162,15 @@ fn convert_members(alloc: Global, members: &Map<String, Value>) -> Result<Member
     requires { members_odd (members_view members.now.entries) ≡ false }
     ensures { IfOk result (λ ms. pairs_of (members_view members.now.entries) ≡ Some ms) }
 {
-    let mut names = Items::new(alloc);
-    let mut values = Items::new(alloc);
+    let mut names = Vec::with_capacity(alloc, members.len())?;
+    let mut values = Vec::with_capacity(alloc, members.len())?;
     for (key, member) in members.iter() {
         let name = Text::from_str(alloc, key.as_str())?;
         let value = convert(alloc, member)?;
         names.push(name)?;
         values.push(value)?;
     }
-    Ok(Members::from_parts(names, values))
+    Ok(Members::from_parts(Items::from_vec(names), Items::from_vec(values)))
 }
 
 /// The values under their names that a JSON object stands for, where each of its numbers is an integer of 64 bits with a sign.
@@ -225,7 +225,7 @@ fn cells_written(alloc: Global, cells: &[Cell]) -> Result<Vec<Value>, Memory>
     ensures value { IfOk result (λ vs. items_view vs.items ≡ cells_data cells.now) }
     ensures reads_back { IfOk result (λ vs. cells_of (items_view vs.items) ≡ Some cells.now) }
 {
-    let mut values = Vec::new(alloc);
+    let mut values = Vec::with_capacity(alloc, cells.len())?;
     for cell in cells {
         values.push(written(alloc, cell)?)?;
     }

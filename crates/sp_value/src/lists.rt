@@ -19,9 +19,9 @@ pub type Kinds = Items<Kind>;
 pub fn copy_texts(alloc: Global, texts: &[Text]) -> Result<Texts, Memory>
     ensures { IfOk result (λ copies. copies ≡ texts.now) }
 {
-    let mut copies = Items::new(alloc);
+    let mut copies = Vec::with_capacity(alloc, texts.len())?;
     for text in texts {
         copies.push(Text::from_str(alloc, text.as_str())?)?;
     }
-    Ok(copies)
+    Ok(Items::from_vec(copies))
 }

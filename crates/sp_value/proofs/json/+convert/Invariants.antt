@@ -7,7 +7,7 @@ use Rattle.sp_value.proofs.json.+convert.Given as goal
 abbrev pub invariant-convert_items-loop-item : goal.invariant-convert_items-loop-item
 invariant-convert_items-loop-item l =
     (items_odd (items_view (drop l.item-index l.item-items)) ≡ false)
-    × (cells_of (items_view l.items.items) ≡ option_map (λ rest. l.cells ++ rest) (cells_of (items_view (drop l.item-index l.item-items))))
+    × (cells_of (items_view l.items.items) ≡ option_map (λ rest. l.cells.items ++ rest) (cells_of (items_view (drop l.item-index l.item-items))))
 
 abbrev pub invariant-convert_members-loop-key : goal.invariant-convert_members-loop-key
-invariant-convert_members-loop-key l = Filled l.members.entries l.key-iterator l.names l.values
+invariant-convert_members-loop-key l = Filled l.members.entries l.key-iterator l.names.items l.values.items

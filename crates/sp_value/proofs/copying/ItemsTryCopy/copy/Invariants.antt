@@ -3,4 +3,4 @@ use Rattle.std.proofs.Common.{◌≡◌, take}
 use Rattle.sp_value.proofs.copying.ItemsTryCopy.copy.Given as goal
 
 abbrev pub invariant-loop-item : goal.invariant-loop-item
-invariant-loop-item g l = l.copies ≡ take l.item-index l.item-items
+invariant-loop-item g l = l.copies.items ≡ take l.item-index l.item-items
