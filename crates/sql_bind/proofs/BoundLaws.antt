@@ -2,7 +2,7 @@
 use Rattle.std.proofs.Common.{◌≡◌, List, map, sym, ap, ◌∙◌}
 use Rattle.column_tests.specs.declared.test.Test.{Test}
 use Rattle.column_tests.specs.declared.test.Test.TheVariants as test
-use Rattle.sql_grammar.specs.declared.ast.Asked.{Asked}
+use Rattle.sql_grammar.specs.declared.ast.Predicate.{Predicate}
 use Rattle.sql_grammar.specs.declared.ast.Expr.{Expr, fold-Expr, fold-roll-Expr}
 use Rattle.sql_grammar.specs.declared.ast.Expr.TheVariants as e
 use Rattle.sql_grammar.specs.declared.ast.Expr.TheVariants.{rolls-Or, rolls-And, rolls-Not, rolls-Test}
@@ -24,8 +24,8 @@ pub expr_not : (looked : List Seen) (x : Expr) → expr_of looked (e.Not x) ≡ 
 unfolding expr_of
 expr_not looked x = ap (fold-Expr (Test Column) (expr_layer looked)) (sym (rolls-Not x)) ∙ fold-roll-Expr (Test Column) (expr_layer looked) (Expr-F.Not x)
 
-pub expr_test : (looked : List Seen) (of : Operand) (asked : Asked) → expr_of looked (e.Test of asked) ≡ test.Asks (operand_of looked of) (question_of looked asked)
+pub expr_test : (looked : List Seen) (of : Operand) (predicate : Predicate) → expr_of looked (e.Test of predicate) ≡ test.Asks (operand_of looked of) (question_of looked predicate)
 unfolding expr_of
-expr_test looked of asked = ap (fold-Expr (Test Column) (expr_layer looked)) (sym (rolls-Test of asked)) ∙ fold-roll-Expr (Test Column) (expr_layer looked) (Expr-F.Test of asked)
+expr_test looked of predicate = ap (fold-Expr (Test Column) (expr_layer looked)) (sym (rolls-Test of predicate)) ∙ fold-roll-Expr (Test Column) (expr_layer looked) (Expr-F.Test of predicate)
 
 pub ruleset laws = (expr_or, expr_and, expr_not, expr_test)

@@ -4,7 +4,7 @@ use Rattle.std.specs.Prelude.{Option, Some, None}
 use Rattle.std.specs.List.{flat_map}
 use Rattle.std.specs.Option.{option_or}
 use Rattle.std.proofs.lemmas.List.{map-append}
-use Rattle.sql_grammar.specs.declared.ast.Asked.{Asked}
+use Rattle.sql_grammar.specs.declared.ast.Predicate.{Predicate}
 use Rattle.sql_grammar.specs.declared.ast.Expr.{Expr, fold-Expr, fold-roll-Expr}
 use Rattle.sql_grammar.specs.declared.ast.Expr.TheVariants as e
 use Rattle.sql_grammar.specs.declared.ast.Expr.TheVariants.{rolls-Or, rolls-And, rolls-Not, rolls-Test}
@@ -29,9 +29,9 @@ tests_not : (x : Expr) → tests_of (e.Not x) ≡ tests_of x
 unfolding tests_of
 tests_not x = ap (fold-Expr (List Test) tests_layer) (sym (rolls-Not x)) ∙ fold-roll-Expr (List Test) tests_layer (Expr-F.Not x)
 
-tests_test : (of : Operand) (asked : Asked) → tests_of (e.Test of asked) ≡ record { of = of; asked = asked } ∷ []
+tests_test : (of : Operand) (predicate : Predicate) → tests_of (e.Test of predicate) ≡ record { of = of; predicate = predicate } ∷ []
 unfolding tests_of
-tests_test of asked = ap (fold-Expr (List Test) tests_layer) (sym (rolls-Test of asked)) ∙ fold-roll-Expr (List Test) tests_layer (Expr-F.Test of asked)
+tests_test of predicate = ap (fold-Expr (List Test) tests_layer) (sym (rolls-Test of predicate)) ∙ fold-roll-Expr (List Test) tests_layer (Expr-F.Test of predicate)
 
 -- the first of the tests of several conditions
 first_in_each : (rule : NameRule) (looked : List Seen) (xs : List Expr)
@@ -57,9 +57,9 @@ or_none : {B : Type 0} (a : Option B) → option_or a None ≡ a
 or_none None = refl
 or_none (Some x) = refl
 
-pub broken_in_test : (rule : NameRule) (looked : List Seen) (of : Operand) (asked : Asked)
-    → broken_in rule looked (e.Test of asked) ≡ broken rule (Tests looked (record { of = of; asked = asked }))
+pub broken_in_test : (rule : NameRule) (looked : List Seen) (of : Operand) (predicate : Predicate)
+    → broken_in rule looked (e.Test of predicate) ≡ broken rule (Tests looked (record { of = of; predicate = predicate }))
 unfolding broken_in
-broken_in_test rule looked of asked = rw (tests_test of asked) (or_none (broken rule (Tests looked (record { of = of; asked = asked }))))
+broken_in_test rule looked of predicate = rw (tests_test of predicate) (or_none (broken rule (Tests looked (record { of = of; predicate = predicate }))))
 
 pub ruleset laws = (broken_in_or, broken_in_and, broken_in_not, broken_in_test)

@@ -12,8 +12,8 @@ use Rattle.column_tests.specs.declared.test.Question.{Question}
 use Rattle.column_tests.specs.declared.test.Question.TheVariants as question
 use Rattle.column_tests.specs.declared.test.Test.{Test}
 use Rattle.column_tests.specs.declared.test.Test.TheVariants as test
-use Rattle.sql_grammar.specs.declared.ast.Asked.{Asked}
-use Rattle.sql_grammar.specs.declared.ast.Asked.TheVariants as asked
+use Rattle.sql_grammar.specs.declared.ast.Predicate.{Predicate}
+use Rattle.sql_grammar.specs.declared.ast.Predicate.TheVariants as predicate
 use Rattle.sql_grammar.specs.declared.ast.Constant.{Constant}
 use Rattle.sql_grammar.specs.declared.ast.Constant.TheVariants as constant
 use Rattle.sql_grammar.specs.declared.ast.Expr.{Expr, fold-Expr}
@@ -67,17 +67,17 @@ abbrev pub operand_of : List Seen → Named → Operand Column
 operand_of looked (named.Ref r) = operand.Column (column_of looked r)
 operand_of looked (named.Literal l) = operand.Literal (cell_of l.constant)
 
-abbrev pub question_of : List Seen → Asked → Question Column
-question_of looked asked.Truth = question.Truth
-question_of looked (asked.Compares op with) = question.Compares op (operand_of looked with)
-question_of looked (asked.IsIn negated list) = question.IsIn negated (map (λ l. cell_of l.constant) list)
-question_of looked (asked.IsNull negated) = question.IsNull negated
+abbrev pub question_of : List Seen → Predicate → Question Column
+question_of looked predicate.Truth = question.Truth
+question_of looked (predicate.Compares op with) = question.Compares op (operand_of looked with)
+question_of looked (predicate.IsIn negated list) = question.IsIn negated (map (λ l. cell_of l.constant) list)
+question_of looked (predicate.IsNull negated) = question.IsNull negated
 
 abbrev pub expr_layer : List Seen → Expr-F (Test Column) → Test Column
 expr_layer looked (Expr-F.Or xs) = test.Or xs
 expr_layer looked (Expr-F.And xs) = test.And xs
 expr_layer looked (Expr-F.Not x) = test.Not x
-expr_layer looked (Expr-F.Test of asked) = test.Asks (operand_of looked of) (question_of looked asked)
+expr_layer looked (Expr-F.Test of predicate) = test.Asks (operand_of looked of) (question_of looked predicate)
 
 unfoldable pub expr_of : List Seen → Expr → Test Column
 expr_of looked = fold-Expr (Test Column) (expr_layer looked)

@@ -1,8 +1,8 @@
 -- What a statement says of names, part by part in the order of its text.
 use Rattle.std.specs.Prelude.{ℕ, ◌+◌, List, [], ◌∷◌, ◌++◌, map, take, Option, Some, None}
 use Rattle.std.specs.List.{flat_map}
-use Rattle.sql_grammar.specs.declared.ast.Asked.{Asked}
-use Rattle.sql_grammar.specs.declared.ast.Asked.TheVariants as asked
+use Rattle.sql_grammar.specs.declared.ast.Predicate.{Predicate}
+use Rattle.sql_grammar.specs.declared.ast.Predicate.TheVariants as predicate
 use Rattle.sql_grammar.specs.declared.ast.Expr.{Expr, fold-Expr}
 use Rattle.sql_grammar.specs.declared.ast.Expr.TheOpen.{Expr-F}
 use Rattle.sql_grammar.specs.declared.ast.Key.{Key}
@@ -11,7 +11,7 @@ use Rattle.sql_grammar.specs.declared.ast.Operand.TheVariants as operand
 use Rattle.sql_grammar.specs.declared.ast.Ref.{Ref}
 use Rattle.sql_grammar.specs.declared.ast.Shown.{Shown}
 use Rattle.sql_grammar.specs.declared.ast.Shown.TheVariants as shown
-use Rattle.sql_grammar.specs.declared.ast.Source.{Source}
+use Rattle.sql_grammar.specs.declared.ast.TableRef.{TableRef}
 use Rattle.sql_grammar.specs.declared.ast.Statement.{Statement}
 use Rattle.sql_bind.specs.Sources.{Seen}
 
@@ -19,13 +19,13 @@ use Rattle.sql_bind.specs.Sources.{Seen}
 
 pub record Test : Type 0 where
   pub of : Operand
-  pub asked : Asked
+  pub predicate : Predicate
 
 abbrev pub tests_layer : Expr-F (List Test) → List Test
 tests_layer (Expr-F.Or tests) = flat_map (λ ts. ts) tests
 tests_layer (Expr-F.And tests) = flat_map (λ ts. ts) tests
 tests_layer (Expr-F.Not tests) = tests
-tests_layer (Expr-F.Test of asked) = record { of = of; asked = asked } ∷ []
+tests_layer (Expr-F.Test of predicate) = record { of = of; predicate = predicate } ∷ []
 
 unfoldable pub tests_of : Expr → List Test
 tests_of = fold-Expr (List Test) tests_layer
@@ -34,21 +34,21 @@ abbrev pub operand_refs : Operand → List Ref
 operand_refs (operand.Ref r) = r ∷ []
 operand_refs (operand.Literal l) = []
 
-abbrev pub asked_refs : Asked → List Ref
-asked_refs asked.Truth = []
-asked_refs (asked.Compares op with) = operand_refs with
-asked_refs (asked.IsIn negated list) = []
-asked_refs (asked.IsNull negated) = []
+abbrev pub predicate_refs : Predicate → List Ref
+predicate_refs predicate.Truth = []
+predicate_refs (predicate.Compares op with) = operand_refs with
+predicate_refs (predicate.IsIn negated list) = []
+predicate_refs (predicate.IsNull negated) = []
 
 abbrev pub refs_of : Test → List Ref
-refs_of t = operand_refs t.of ++ asked_refs t.asked
+refs_of t = operand_refs t.of ++ predicate_refs t.predicate
 
 -- ---- the parts
 
 -- a ref that is shown, a source after others, a test, an order key; each with the sources that are looked at there
 pub data Part : Type 0 where
   Shows : List Seen → Ref → Part
-  Opens : List Seen → Source → Part
+  Opens : List Seen → TableRef → Part
   Tests : List Seen → Test → Part
   Sorts : List Seen → Key → Part
 

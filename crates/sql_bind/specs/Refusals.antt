@@ -5,15 +5,15 @@ use Rattle.sp_value.specs.declared.kind.Kind.{Kind}
 use Rattle.sp_value.specs.declared.kind.Kind.TheVariants as kind
 use Rattle.sp_model.specs.declared.declaration.Declaration.{Declaration}
 use Rattle.sp_model.specs.declared.settings.Settings.{Settings}
-use Rattle.sql_grammar.specs.declared.ast.Asked.{Asked}
-use Rattle.sql_grammar.specs.declared.ast.Asked.TheVariants as asked
+use Rattle.sql_grammar.specs.declared.ast.Predicate.{Predicate}
+use Rattle.sql_grammar.specs.declared.ast.Predicate.TheVariants as predicate
 use Rattle.sql_grammar.specs.declared.ast.Constant.{Constant}
 use Rattle.sql_grammar.specs.declared.ast.Constant.TheVariants as constant
 use Rattle.sql_grammar.specs.declared.ast.Expr.{Expr}
 use Rattle.sql_grammar.specs.declared.ast.Operand.{Operand}
 use Rattle.sql_grammar.specs.declared.ast.Operand.TheVariants as operand
 use Rattle.sql_grammar.specs.declared.ast.Ref.{Ref}
-use Rattle.sql_grammar.specs.declared.ast.Source.{Source}
+use Rattle.sql_grammar.specs.declared.ast.TableRef.{TableRef}
 use Rattle.sql_grammar.specs.declared.ast.Statement.{Statement}
 use Rattle.sql_bind.specs.First.{first_of}
 use Rattle.sql_bind.specs.Fits.{fits_of}
@@ -70,7 +70,7 @@ abbrev pub ambiguous_ref : List Seen → Ref → Option ℕ
 ambiguous_ref looked r = place_of_several (fits_of looked r) r.place
 
 -- a source with the alias of one before it, at its connection's name
-abbrev pub repeated_alias : List Seen → Source → Option ℕ
+abbrev pub repeated_alias : List Seen → TableRef → Option ℕ
 repeated_alias before s = place_unless (not (list_any (λ b. bytes_eq (alias_of b.source) (alias_of s)) before)) s.connection.place
 
 -- ---- kinds
@@ -115,11 +115,11 @@ may_stand None = true
 may_stand (Some kind.Bool) = true
 may_stand (Some _) = false
 
-abbrev pub may_ask : List Seen → Option Kind → Asked → Bool
-may_ask looked k asked.Truth = may_stand k
-may_ask looked k (asked.Compares op with) = may_compare k (operand_kind looked with)
-may_ask looked k (asked.IsIn negated list) = list_all (λ l. may_compare k (constant_kind l.constant)) list
-may_ask looked k (asked.IsNull negated) = true
+abbrev pub may_ask : List Seen → Option Kind → Predicate → Bool
+may_ask looked k predicate.Truth = may_stand k
+may_ask looked k (predicate.Compares op with) = may_compare k (operand_kind looked with)
+may_ask looked k (predicate.IsIn negated list) = list_all (λ l. may_compare k (constant_kind l.constant)) list
+may_ask looked k (predicate.IsNull negated) = true
 
 abbrev pub operand_place : Operand → ℕ
 operand_place (operand.Ref r) = r.place
@@ -127,7 +127,7 @@ operand_place (operand.Literal l) = l.place
 
 -- a test whose kinds don't fit, at its first operand
 abbrev pub mismatched_test : List Seen → Test → Option ℕ
-mismatched_test looked t = place_unless (may_ask looked (operand_kind looked t.of) t.asked) (operand_place t.of)
+mismatched_test looked t = place_unless (may_ask looked (operand_kind looked t.of) t.predicate) (operand_place t.of)
 
 -- ---- parts
 

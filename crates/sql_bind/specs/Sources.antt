@@ -7,12 +7,12 @@ use Rattle.sp_model.specs.declared.declaration.TableDecl.{TableDecl}
 use Rattle.sql_grammar.specs.declared.ast.Expr.{Expr}
 use Rattle.sql_grammar.specs.declared.ast.Name.{Name}
 use Rattle.sql_grammar.specs.declared.ast.Join.{Join}
-use Rattle.sql_grammar.specs.declared.ast.Source.{Source}
+use Rattle.sql_grammar.specs.declared.ast.TableRef.{TableRef}
 use Rattle.sql_grammar.specs.declared.ast.Statement.{Statement}
 
 -- a source, with the condition on which its rows are joined
 pub record Opened : Type 0 where
-  pub source : Source
+  pub source : TableRef
   pub on : Option Expr
 
 abbrev pub opened_by : Join → Opened
@@ -22,7 +22,7 @@ abbrev pub opened : Statement → List Opened
 opened s = record { source = s.from; on = None } ∷ map opened_by s.joins
 
 -- the name after it, else its table's name
-abbrev pub alias_of : Source → List ℕ
+abbrev pub alias_of : TableRef → List ℕ
 alias_of s = option_map_or (λ (n : Name). n.text) s.alias s.table.text
 
 -- the first table of a name
@@ -30,12 +30,12 @@ abbrev pub first_table : List ℕ → List TableDecl → Option TableDecl
 first_table name tables = find (λ t. bytes_eq t.name name) tables
 
 -- the table of a source, by the declarations of connections; a connection without a declaration has no table
-abbrev pub table_of : (List ℕ → Option Declaration) → Source → Option TableDecl
+abbrev pub table_of : (List ℕ → Option Declaration) → TableRef → Option TableDecl
 table_of declarations s = option_and_then (λ (d : Declaration). first_table s.table.text d.tables) (declarations s.connection.text)
 
 -- a source whose table is declared
 pub record Seen : Type 0 where
-  pub source : Source
+  pub source : TableRef
   pub on : Option Expr
   pub table : TableDecl
 

@@ -10,7 +10,7 @@ use crate::fitting::{Fit, Fits, fits_of};
 use crate::sources::Seen;
 use column_tests::{Operand, Question, Test};
 use sp_value::{Cell, Cells, Kind, Memory, TryCopy};
-use sql_grammar::{Asked, Constant, Expr, Literal, Operand as Named, Ref};
+use sql_grammar::{Constant, Expr, Literal, Operand as Named, Predicate, Ref};
 use sqlite_items::{Boxed, Items};
 use std::alloc::Global;
 
@@ -96,23 +96,27 @@ fn operand_of(alloc: Global, looked: &[Seen], operand: &Named) -> Result<Operand
     }
 }
 
-fn question_of(alloc: Global, looked: &[Seen], asked: &Asked) -> Result<Question<Column>, Memory>
-    ensures { IfOk result (λ a. a ≡ question_of looked.now asked.now) }
+fn question_of(
+    alloc: Global,
+    looked: &[Seen],
+    predicate: &Predicate,
+) -> Result<Question<Column>, Memory>
+    ensures { IfOk result (λ a. a ≡ question_of looked.now predicate.now) }
 {
-    match asked {
-        Asked::Truth => Ok(Question::Truth),
-        Asked::Compares { op, with } => {
+    match predicate {
+        Predicate::Truth => Ok(Question::Truth),
+        Predicate::Compares { op, with } => {
             let with = operand_of(alloc, looked, with)?;
             Ok(Question::Compares { op: *op, with })
         }
-        Asked::IsIn { negated, list } => {
+        Predicate::IsIn { negated, list } => {
             let list = cells_of(alloc, list.as_slice())?;
             Ok(Question::IsIn {
                 negated: *negated,
                 list,
             })
         }
-        Asked::IsNull { negated } => Ok(Question::IsNull { negated: *negated }),
+        Predicate::IsNull { negated } => Ok(Question::IsNull { negated: *negated }),
     }
 }
 
@@ -120,12 +124,12 @@ fn test_of(
     alloc: Global,
     looked: &[Seen],
     of: &Named,
-    asked: &Asked,
+    predicate: &Predicate,
 ) -> Result<Test<Column>, Memory>
-    ensures { IfOk result (λ e. e ≡ test.Asks (operand_of looked.now of.now) (question_of looked.now asked.now)) }
+    ensures { IfOk result (λ e. e ≡ test.Asks (operand_of looked.now of.now) (question_of looked.now predicate.now)) }
 {
     let of = operand_of(alloc, looked, of)?;
-    let question = question_of(alloc, looked, asked)?;
+    let question = question_of(alloc, looked, predicate)?;
     Ok(Test::Asks { of, question })
 }
 
@@ -156,7 +160,7 @@ fn expr_of(alloc: Global, looked: &[Seen], e: &Expr) -> Result<Test<Column>, Mem
             let inner = expr_of(alloc, looked, inner.get())?;
             negation(alloc, inner)
         }
-        Expr::Test { of, asked } => test_of(alloc, looked, of, asked),
+        Expr::Test { of, predicate } => test_of(alloc, looked, of, predicate),
     }
 }
 

@@ -8,7 +8,7 @@ use crate::fitting::Fits;
 use crate::looked::Looked;
 use crate::sources::{alias_of, unless};
 use sp_value::Kind;
-use sql_grammar::{Asked, Constant, Literal, Operand, Ref, Source};
+use sql_grammar::{Constant, Literal, Operand, Predicate, Ref, TableRef};
 
 /// What is asked of each part of a statement: that its names are known, and told apart, and that its kinds fit.
 #[derive(Clone, Copy)]
@@ -38,7 +38,7 @@ pub(crate) fn ambiguous_ref(looked: &Looked, of: &Ref) -> Option<u64>
     }
 }
 
-pub(crate) fn repeated_alias(before: &Looked, source: &Source) -> Option<u64>
+pub(crate) fn repeated_alias(before: &Looked, source: &TableRef) -> Option<u64>
     ensures { result ≡ repeated_alias before.now source.now }
 {
     unless(!before.has_alias(alias_of(source)), source.connection.place)
@@ -113,14 +113,14 @@ fn may_be_in(kind: Option<Kind>, list: &[Literal]) -> bool
     list.iter().all(|literal| may_compare(kind, constant_kind(&literal.constant)))
 }
 
-fn may_ask(looked: &Looked, kind: Option<Kind>, asked: &Asked) -> bool
-    ensures { result ≡ may_ask looked.now kind asked.now }
+fn may_ask(looked: &Looked, kind: Option<Kind>, predicate: &Predicate) -> bool
+    ensures { result ≡ may_ask looked.now kind predicate.now }
 {
-    match asked {
-        Asked::Truth => may_stand(kind),
-        Asked::Compares { with, .. } => may_compare(kind, operand_kind(looked, with)),
-        Asked::IsIn { list, .. } => may_be_in(kind, list.as_slice()),
-        Asked::IsNull { .. } => true,
+    match predicate {
+        Predicate::Truth => may_stand(kind),
+        Predicate::Compares { with, .. } => may_compare(kind, operand_kind(looked, with)),
+        Predicate::IsIn { list, .. } => may_be_in(kind, list.as_slice()),
+        Predicate::IsNull { .. } => true,
     }
 }
 
@@ -133,9 +133,9 @@ fn operand_place(operand: &Operand) -> u64
     }
 }
 
-pub(crate) fn mismatched_test(looked: &Looked, of: &Operand, asked: &Asked) -> Option<u64>
-    ensures { result ≡ mismatched_test looked.now (record { of = of.now; asked = asked.now }) }
+pub(crate) fn mismatched_test(looked: &Looked, of: &Operand, predicate: &Predicate) -> Option<u64>
+    ensures { result ≡ mismatched_test looked.now (record { of = of.now; predicate = predicate.now }) }
 {
-    let fits = may_ask(looked, operand_kind(looked, of), asked);
+    let fits = may_ask(looked, operand_kind(looked, of), predicate);
     unless(fits, operand_place(of))
 }

@@ -10,14 +10,14 @@ ghost use Rattle.sql_bind.specs.Sources.{alias_of, first_table, table_of, seen_b
 use crate::catalog::Catalog;
 use sp_model::{Declaration, TableDecl};
 use sp_value::{Memory, Text};
-use sql_grammar::{Expr, Source, Statement};
+use sql_grammar::{Expr, Statement, TableRef};
 use std::alloc::Global;
 use std::marker::Model;
 
 /// A source, the condition on which its rows are joined, and its table.
 #[derive(Drop)]
 pub(crate) struct Seen<'a> {
-    source: &'a Source,
+    source: &'a TableRef,
     on: Option<&'a Expr>,
     table: &'a TableDecl,
 }
@@ -36,7 +36,7 @@ impl<'a> Model for Seen<'a> {
 }
 
 impl<'a> Seen<'a> {
-    pub fn source(&self) -> &'a Source
+    pub fn source(&self) -> &'a TableRef
         ensures { result.now ≡ self.now.source }
     {
         self.source
@@ -56,7 +56,7 @@ impl<'a> Seen<'a> {
 }
 
 /// The name by which refs name a source: the one after it, else its table's.
-pub(crate) fn alias_of(source: &Source) -> &Text
+pub(crate) fn alias_of(source: &TableRef) -> &Text
     ensures { result.now ≡ alias_of source.now }
 {
     match &source.alias {
@@ -76,14 +76,14 @@ fn table_named<'a>(name: &Text, declaration: &'a Declaration) -> Option<&'a Tabl
     None
 }
 
-fn table_of<'a>(catalog: &'a Catalog, source: &Source) -> Option<&'a TableDecl>
+fn table_of<'a>(catalog: &'a Catalog, source: &TableRef) -> Option<&'a TableDecl>
     ensures { option_copied result ≡ table_of (known_under catalog.now) source.now }
 {
     let declaration = catalog.declared_under(&source.connection.text)?;
     table_named(&source.table.text, declaration)
 }
 
-fn seen_by<'a>(catalog: &'a Catalog, source: &'a Source, on: Option<&'a Expr>) -> Option<Seen<'a>>
+fn seen_by<'a>(catalog: &'a Catalog, source: &'a TableRef, on: Option<&'a Expr>) -> Option<Seen<'a>>
     ensures { result ≡ seen_by (known_under catalog.now) (record { source = source.now; on = option_copied on.entry }) }
 {
     let table = table_of(catalog, source)?;
@@ -121,7 +121,7 @@ pub(crate) fn unless(holds: bool, place: u64) -> Option<u64>
     if holds { None } else { Some(place) }
 }
 
-fn connection_place(catalog: &Catalog, source: &Source) -> Option<u64>
+fn connection_place(catalog: &Catalog, source: &TableRef) -> Option<u64>
     ensures { result ≡ place_unless (is_connection catalog.now.settings source.now.connection.text) source.now.connection.place }
 {
     unless(
@@ -145,7 +145,7 @@ pub(crate) fn unknown_connection(catalog: &Catalog, statement: &Statement) -> Op
     None
 }
 
-fn table_place(catalog: &Catalog, source: &Source) -> Option<u64>
+fn table_place(catalog: &Catalog, source: &TableRef) -> Option<u64>
     ensures { result ≡ place_unless (is_some (table_of (known_under catalog.now) source.now)) source.now.table.place }
 {
     unless(table_of(catalog, source).is_some(), source.table.place)

@@ -3,7 +3,7 @@
 ghost use Rattle.std.specs.Prelude.{◌≡◌, ◌+◌, ◌<◌, length, map, take};
 ghost use Rattle.std.specs.Option.{option_copied, option_or};
 ghost use Rattle.sql_bind.specs.First.{first_of};
-ghost use Rattle.sql_bind.specs.Parts.{Shows, Opens, Tests, Sorts, operand_refs, asked_refs, refs_of, shown_parts, condition_parts, source_parts, parts_of};
+ghost use Rattle.sql_bind.specs.Parts.{Shows, Opens, Tests, Sorts, operand_refs, predicate_refs, refs_of, shown_parts, condition_parts, source_parts, parts_of};
 ghost use Rattle.sql_bind.specs.Refusals.{broken, broken_in};
 
 use crate::judging::{
@@ -11,7 +11,7 @@ use crate::judging::{
 };
 use crate::looked::Looked;
 use crate::sources::{Seen, unless};
-use sql_grammar::{Asked, Expr, Item, Key, Operand, Ref, Shown, Source, Statement};
+use sql_grammar::{Expr, Item, Key, Operand, Predicate, Ref, Shown, Statement, TableRef};
 
 fn ref_place(rule: NameRule, looked: &Looked, of: &Ref) -> Option<u64>
     ensures { result ≡ broken rule (Shows looked.now of.now) }
@@ -23,7 +23,7 @@ fn ref_place(rule: NameRule, looked: &Looked, of: &Ref) -> Option<u64>
     }
 }
 
-fn source_place(rule: NameRule, before: &Looked, source: &Source) -> Option<u64>
+fn source_place(rule: NameRule, before: &Looked, source: &TableRef) -> Option<u64>
     ensures { result ≡ broken rule (Opens before.now source.now) }
 {
     match rule {
@@ -52,34 +52,34 @@ fn operand_place(rule: NameRule, looked: &Looked, operand: &Operand) -> Option<u
     }
 }
 
-fn asked_place(rule: NameRule, looked: &Looked, asked: &Asked) -> Option<u64>
-    ensures { result ≡ first_of (λ r. broken rule (Shows looked.now r)) (asked_refs asked.now) }
+fn predicate_place(rule: NameRule, looked: &Looked, predicate: &Predicate) -> Option<u64>
+    ensures { result ≡ first_of (λ r. broken rule (Shows looked.now r)) (predicate_refs predicate.now) }
 {
-    match asked {
-        Asked::Truth => None,
-        Asked::Compares { with, .. } => operand_place(rule, looked, with),
-        Asked::IsIn { .. } => None,
-        Asked::IsNull { .. } => None,
+    match predicate {
+        Predicate::Truth => None,
+        Predicate::Compares { with, .. } => operand_place(rule, looked, with),
+        Predicate::IsIn { .. } => None,
+        Predicate::IsNull { .. } => None,
     }
 }
 
 #[tactic(auto, using(crate::proofs::Firsts::first_of_append))]
-fn refs_place(rule: NameRule, looked: &Looked, of: &Operand, asked: &Asked) -> Option<u64>
-    ensures { result ≡ first_of (λ r. broken rule (Shows looked.now r)) (refs_of (record { of = of.now; asked = asked.now })) }
+fn refs_place(rule: NameRule, looked: &Looked, of: &Operand, predicate: &Predicate) -> Option<u64>
+    ensures { result ≡ first_of (λ r. broken rule (Shows looked.now r)) (refs_of (record { of = of.now; predicate = predicate.now })) }
 {
     if let Some(place) = operand_place(rule, looked, of) {
         return Some(place);
     }
-    asked_place(rule, looked, asked)
+    predicate_place(rule, looked, predicate)
 }
 
-fn test_place(rule: NameRule, looked: &Looked, of: &Operand, asked: &Asked) -> Option<u64>
-    ensures { result ≡ broken rule (Tests looked.now (record { of = of.now; asked = asked.now })) }
+fn test_place(rule: NameRule, looked: &Looked, of: &Operand, predicate: &Predicate) -> Option<u64>
+    ensures { result ≡ broken rule (Tests looked.now (record { of = of.now; predicate = predicate.now })) }
 {
     match rule {
-        NameRule::UnknownColumn => refs_place(rule, looked, of, asked),
-        NameRule::Ambiguous => refs_place(rule, looked, of, asked),
-        NameRule::TypeMismatch => mismatched_test(looked, of, asked),
+        NameRule::UnknownColumn => refs_place(rule, looked, of, predicate),
+        NameRule::Ambiguous => refs_place(rule, looked, of, predicate),
+        NameRule::TypeMismatch => mismatched_test(looked, of, predicate),
     }
 }
 
@@ -92,7 +92,7 @@ fn expr_place(rule: NameRule, looked: &Looked, e: &Expr) -> Option<u64>
         Expr::Or(members) => members_place(rule, looked, members.as_slice()),
         Expr::And(members) => members_place(rule, looked, members.as_slice()),
         Expr::Not(inner) => expr_place(rule, looked, inner.get()),
-        Expr::Test { of, asked } => test_place(rule, looked, of, asked),
+        Expr::Test { of, predicate } => test_place(rule, looked, of, predicate),
     }
 }
 

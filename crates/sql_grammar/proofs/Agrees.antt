@@ -5,7 +5,7 @@ use Rattle.sql_lex.specs.declared.token.Kind.TheVariants as k
 use Rattle.sql_lex.specs.declared.token.Token.{Token}
 use Rattle.sql_grammar.specs.declared.ast.Expr.{Expr}
 use Rattle.sql_grammar.specs.declared.ast.Expr.TheVariants as e
-use Rattle.sql_grammar.specs.declared.ast.Source.{Source}
+use Rattle.sql_grammar.specs.declared.ast.TableRef.{TableRef}
 use Rattle.sql_grammar.specs.declared.ast.Join.{Join}
 use Rattle.sql_grammar.specs.declared.ast.Key.{Key}
 use Rattle.sql_grammar.specs.Reading.{Outcome, Parser, same, next_in, then_at, made_at, maybe_at, either_at, turns_at, shut_at, ◌>>=◌}
@@ -142,7 +142,7 @@ agrees_tests : (n m : ℕ) → n ≤ m → Agrees (tests_at n) (tests_at m)
 agrees_tests n m h = agrees_then (joins_at n) (joins_at m) (then_at (where_at n) end_at) (then_at (where_at m) end_at) (agrees_joins n m h)
     (agrees_then (where_at n) (where_at m) end_at end_at (agrees_where n m h) (agrees_itself end_at))
 
-abbrev from_at : Parser Source
+abbrev from_at : Parser TableRef
 from_at = after_at k.From source_at
 
 pub agrees_statement : (n m : ℕ) → n ≤ m → Agrees (statement_at n) (statement_at m)

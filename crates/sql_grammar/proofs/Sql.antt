@@ -13,20 +13,20 @@ use Rattle.sql_grammar.specs.declared.ast.Operand.{Operand}
 use Rattle.sql_grammar.specs.declared.ast.Operand.TheVariants as operands
 use Rattle.sp_value.specs.declared.truth.Op.{Op}
 use Rattle.sp_value.specs.declared.truth.Op.TheVariants as op
-use Rattle.sql_grammar.specs.declared.ast.Asked.{Asked}
-use Rattle.sql_grammar.specs.declared.ast.Asked.TheVariants as asking
+use Rattle.sql_grammar.specs.declared.ast.Predicate.{Predicate}
+use Rattle.sql_grammar.specs.declared.ast.Predicate.TheVariants as asking
 use Rattle.sql_grammar.specs.declared.ast.Expr.{Expr}
 use Rattle.sql_grammar.specs.declared.ast.Expr.TheVariants as e
 use Rattle.sql_grammar.specs.declared.ast.Item.{Item}
 use Rattle.sql_grammar.specs.declared.ast.Shown.{Shown}
 use Rattle.sql_grammar.specs.declared.ast.Shown.TheVariants as showing
-use Rattle.sql_grammar.specs.declared.ast.Source.{Source}
+use Rattle.sql_grammar.specs.declared.ast.TableRef.{TableRef}
 use Rattle.sql_grammar.specs.declared.ast.Key.{Key}
 use Rattle.sql_grammar.specs.Says as say
 use Rattle.sql_grammar.specs.Language.{Lang, Viable, One, Maybe, Many, Made, Either}
 use Rattle.sql_grammar.specs.Reading.{Parser, has, same, one_at}
-use Rattle.sql_grammar.specs.Grammar.{Word, After, Before, RefPhrase, ItemPhrase, ShownPhrase, OperandPhrase, ComparesPhrase, ListPhrase, NullPhrase, AskedPhrase, TestPhrase, BothPhrase, ExprPhrase, NestedPhrase, SinglePhrase, AliasPhrase, SourcePhrase, JoinPhrase, KeyPhrase, WherePhrase, OrderPhrase, LimitPhrase, StatementPhrase}
-use Rattle.sql_grammar.specs.Parser.{word_at, name_at, literal_at, more_at, word_name_at, ref_at, item_at, shown_at, operand_at, ops, compares_at, list_at, null_at, asked_at, askings, test_at, both_at, expr_at, nested_at, single_at, where_at, alias_at, source_at, inner_at, join_at, joinings, joins_at, direction_at, key_at, order_at, limit_at, semi_at, statement_at}
+use Rattle.sql_grammar.specs.Grammar.{Word, After, Before, RefPhrase, ItemPhrase, ShownPhrase, OperandPhrase, ComparesPhrase, ListPhrase, NullPhrase, PredicatePhrase, TestPhrase, BothPhrase, ExprPhrase, NestedPhrase, SinglePhrase, AliasPhrase, SourcePhrase, JoinPhrase, KeyPhrase, WherePhrase, OrderPhrase, LimitPhrase, StatementPhrase}
+use Rattle.sql_grammar.specs.Parser.{word_at, name_at, literal_at, more_at, word_name_at, ref_at, item_at, shown_at, operand_at, ops, compares_at, list_at, null_at, predicate_at, askings, test_at, both_at, expr_at, nested_at, single_at, where_at, alias_at, source_at, inner_at, join_at, joinings, joins_at, direction_at, key_at, order_at, limit_at, semi_at, statement_at}
 use Rattle.sql_grammar.proofs.Sets.{split, same_is, disjoint}
 use Rattle.sql_grammar.proofs.Rules.{Rule}
 use Rattle.sql_grammar.proofs.Laws.{Laws, named, laws_of}
@@ -75,7 +75,7 @@ limit_number = named limit_number_laws
 abbrev literals : List Kind
 literals = k.Null ∷ k.True ∷ k.False ∷ k.Number ∷ k.Text ∷ []
 
-literal_kind : (kind : Kind) (value : Value) (place : ℕ) (x : Literal) → say.placed place (say.constant_by kind value) ≡ Some x → has literals kind ≡ true
+literal_kind : (kind : Kind) (value : Value) (place : ℕ) (x : Literal) → say.constant_literal place (say.constant_by kind value) ≡ Some x → has literals kind ≡ true
 literal_kind k.Null value place x h = refl
 literal_kind k.True value place x h = refl
 literal_kind k.False value place x h = refl
@@ -155,7 +155,7 @@ compares_laws : Laws ComparesPhrase ComparesPhrase compares_at ops (k.Dot ∷ []
 unfolding compares_at
 compares_laws = laws_of (made (λ p. asking.Compares p.0 p.1) (both operator operand refl)) _ _ refl refl
 
-abbrev compares : Rule Asked
+abbrev compares : Rule Predicate
 compares = named compares_laws
 
 list_laws : Laws ListPhrase ListPhrase list_at (k.In ∷ []) [] false
@@ -169,22 +169,22 @@ null_laws : Laws NullPhrase NullPhrase null_at (k.Is ∷ []) [] false
 unfolding null_at
 null_laws = laws_of (made (λ n. asking.IsNull (say.is_there n)) (after k.Is (before (maybe (word k.Not) refl) k.Null refl))) _ _ refl refl
 
-abbrev null : Rule Asked
+abbrev null : Rule Predicate
 null = named null_laws
 
-asked_laws : Laws AskedPhrase AskedPhrase asked_at askings (k.Dot ∷ []) false
-unfolding asked_at
-asked_laws = laws_of (either compares (either (made (asking.IsIn false) listing) (either (made (asking.IsIn true) (after k.Not listing)) null refl refl refl) refl refl refl) refl refl refl) _ _ refl refl
+predicate_laws : Laws PredicatePhrase PredicatePhrase predicate_at askings (k.Dot ∷ []) false
+unfolding predicate_at
+predicate_laws = laws_of (either compares (either (made (asking.IsIn false) listing) (either (made (asking.IsIn true) (after k.Not listing)) null refl refl refl) refl refl refl) refl refl refl) _ _ refl refl
 
-abbrev asked : Rule Asked
-asked = named asked_laws
+abbrev predicate : Rule Predicate
+predicate = named predicate_laws
 
 abbrev test_goes_on : List Kind
 test_goes_on = k.Dot ∷ askings
 
 test_laws : Laws TestPhrase TestPhrase test_at (k.Name ∷ literals) test_goes_on false
 unfolding test_at
-test_laws = laws_of (made say.test (both operand (maybe asked refl) refl)) _ _ refl refl
+test_laws = laws_of (made say.test (both operand (maybe predicate refl) refl)) _ _ refl refl
 
 abbrev test : Rule Expr
 test = named test_laws
@@ -274,7 +274,7 @@ pub source_laws : Laws SourcePhrase SourcePhrase source_at (k.Name ∷ []) (k.As
 unfolding source_at
 source_laws = laws_of (made say.source (both name (both (after k.Dot name) (named alias_laws) refl) refl)) _ _ refl refl
 
-abbrev source : Rule Source
+abbrev source : Rule TableRef
 source = named source_laws
 
 inner_laws : Laws (Maybe (Word k.Inner)) (Maybe (Word k.Inner)) inner_at (k.Inner ∷ []) (k.Inner ∷ []) true

@@ -7,14 +7,14 @@ use Rattle.sql_grammar.specs.declared.ast.Ref.{Ref}
 use Rattle.sql_grammar.specs.declared.ast.Literal.{Literal}
 use Rattle.sql_grammar.specs.declared.ast.Operand.{Operand}
 use Rattle.sql_grammar.specs.declared.ast.Operand.TheVariants as operand
-use Rattle.sql_grammar.specs.declared.ast.Asked.{Asked}
-use Rattle.sql_grammar.specs.declared.ast.Asked.TheVariants as asked
+use Rattle.sql_grammar.specs.declared.ast.Predicate.{Predicate}
+use Rattle.sql_grammar.specs.declared.ast.Predicate.TheVariants as predicate
 use Rattle.sql_grammar.specs.declared.ast.Expr.{Expr}
 use Rattle.sql_grammar.specs.declared.ast.Expr.TheVariants as e
 use Rattle.sql_grammar.specs.declared.ast.Item.{Item}
 use Rattle.sql_grammar.specs.declared.ast.Shown.{Shown}
 use Rattle.sql_grammar.specs.declared.ast.Shown.TheVariants as shown
-use Rattle.sql_grammar.specs.declared.ast.Source.{Source}
+use Rattle.sql_grammar.specs.declared.ast.TableRef.{TableRef}
 use Rattle.sql_grammar.specs.declared.ast.Join.{Join}
 use Rattle.sql_grammar.specs.declared.ast.Key.{Key}
 use Rattle.sql_grammar.specs.declared.ast.Statement.{Statement}
@@ -53,24 +53,24 @@ abbrev pub OperandPhrase : Lang Operand
 OperandPhrase = Either (Made operand.Ref RefPhrase) (Made operand.Literal (One say.literal))
 
 -- op operand
-abbrev pub ComparesPhrase : Lang Asked
-ComparesPhrase = Made (λ p. asked.Compares p.0 p.1) (Joined (One say.operator) OperandPhrase)
+abbrev pub ComparesPhrase : Lang Predicate
+ComparesPhrase = Made (λ p. predicate.Compares p.0 p.1) (Joined (One say.operator) OperandPhrase)
 
 -- in ( literal { , literal } )
 abbrev pub ListPhrase : Lang (List Literal)
 ListPhrase = After k.In (After k.Open (Before (Made say.listed (Listed k.Comma (One say.literal))) k.Close))
 
 -- is [ not ] null
-abbrev pub NullPhrase : Lang Asked
-NullPhrase = Made (λ n. asked.IsNull (say.is_there n)) (After k.Is (Before (Maybe (Word k.Not)) k.Null))
+abbrev pub NullPhrase : Lang Predicate
+NullPhrase = Made (λ n. predicate.IsNull (say.is_there n)) (After k.Is (Before (Maybe (Word k.Not)) k.Null))
 
 -- op operand | in list | not in list | is [ not ] null
-abbrev pub AskedPhrase : Lang Asked
-AskedPhrase = Either ComparesPhrase (Either (Made (asked.IsIn false) ListPhrase) (Either (Made (asked.IsIn true) (After k.Not ListPhrase)) NullPhrase))
+abbrev pub PredicatePhrase : Lang Predicate
+PredicatePhrase = Either ComparesPhrase (Either (Made (predicate.IsIn false) ListPhrase) (Either (Made (predicate.IsIn true) (After k.Not ListPhrase)) NullPhrase))
 
--- test = operand [ asked ]
+-- test = operand [ predicate ]
 abbrev pub TestPhrase : Lang Expr
-TestPhrase = Made say.test (Joined OperandPhrase (Maybe AskedPhrase))
+TestPhrase = Made say.test (Joined OperandPhrase (Maybe PredicatePhrase))
 
 -- both = single { and single }
 abbrev pub BothPhrase : Lang Expr → Lang Expr
@@ -94,7 +94,7 @@ abbrev pub AliasPhrase : Lang Name
 AliasPhrase = Made say.second (Joined (Maybe (Word k.As)) (One say.name))
 
 -- source = name . name [ [as] name ]
-abbrev pub SourcePhrase : Lang Source
+abbrev pub SourcePhrase : Lang TableRef
 SourcePhrase = Made say.source (Joined (One say.name) (Joined (After k.Dot (One say.name)) (Maybe AliasPhrase)))
 
 -- [inner] join source on expr

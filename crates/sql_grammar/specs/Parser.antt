@@ -8,14 +8,14 @@ use Rattle.sql_grammar.specs.declared.ast.Ref.{Ref}
 use Rattle.sql_grammar.specs.declared.ast.Literal.{Literal}
 use Rattle.sql_grammar.specs.declared.ast.Operand.{Operand}
 use Rattle.sql_grammar.specs.declared.ast.Operand.TheVariants as operand
-use Rattle.sql_grammar.specs.declared.ast.Asked.{Asked}
-use Rattle.sql_grammar.specs.declared.ast.Asked.TheVariants as asked
+use Rattle.sql_grammar.specs.declared.ast.Predicate.{Predicate}
+use Rattle.sql_grammar.specs.declared.ast.Predicate.TheVariants as predicate
 use Rattle.sql_grammar.specs.declared.ast.Expr.{Expr}
 use Rattle.sql_grammar.specs.declared.ast.Expr.TheVariants as e
 use Rattle.sql_grammar.specs.declared.ast.Item.{Item}
 use Rattle.sql_grammar.specs.declared.ast.Shown.{Shown}
 use Rattle.sql_grammar.specs.declared.ast.Shown.TheVariants as shown
-use Rattle.sql_grammar.specs.declared.ast.Source.{Source}
+use Rattle.sql_grammar.specs.declared.ast.TableRef.{TableRef}
 use Rattle.sql_grammar.specs.declared.ast.Join.{Join}
 use Rattle.sql_grammar.specs.declared.ast.Key.{Key}
 use Rattle.sql_grammar.specs.declared.ast.Statement.{Statement}
@@ -70,23 +70,23 @@ operand_at = either_at (k.Name ∷ []) (made_at operand.Ref ref_at) (made_at ope
 abbrev pub ops : List Kind
 ops = k.Equal ∷ k.NotEqual ∷ k.Less ∷ k.AtMost ∷ k.Greater ∷ k.AtLeast ∷ []
 
-unfoldable pub compares_at : Parser Asked
-compares_at = made_at (λ p. asked.Compares p.0 p.1) (then_at (one_at say.operator) operand_at)
+unfoldable pub compares_at : Parser Predicate
+compares_at = made_at (λ p. predicate.Compares p.0 p.1) (then_at (one_at say.operator) operand_at)
 
 unfoldable pub list_at : Parser (List Literal)
 list_at = after_at k.In (after_at k.Open (before_at (made_at say.listed (listed_at k.Comma literal_at)) k.Close))
 
-unfoldable pub null_at : Parser Asked
-null_at = made_at (λ n. asked.IsNull (say.is_there n)) (after_at k.Is (before_at (maybe_at (k.Not ∷ []) (word_at k.Not)) k.Null))
+unfoldable pub null_at : Parser Predicate
+null_at = made_at (λ n. predicate.IsNull (say.is_there n)) (after_at k.Is (before_at (maybe_at (k.Not ∷ []) (word_at k.Not)) k.Null))
 
-unfoldable pub asked_at : Parser Asked
-asked_at = either_at ops compares_at (either_at (k.In ∷ []) (made_at (asked.IsIn false) list_at) (either_at (k.Not ∷ []) (made_at (asked.IsIn true) (after_at k.Not list_at)) null_at))
+unfoldable pub predicate_at : Parser Predicate
+predicate_at = either_at ops compares_at (either_at (k.In ∷ []) (made_at (predicate.IsIn false) list_at) (either_at (k.Not ∷ []) (made_at (predicate.IsIn true) (after_at k.Not list_at)) null_at))
 
 abbrev pub askings : List Kind
 askings = k.Equal ∷ k.NotEqual ∷ k.Less ∷ k.AtMost ∷ k.Greater ∷ k.AtLeast ∷ k.In ∷ k.Not ∷ k.Is ∷ []
 
 unfoldable pub test_at : Parser Expr
-test_at = made_at say.test (then_at operand_at (maybe_at askings asked_at))
+test_at = made_at say.test (then_at operand_at (maybe_at askings predicate_at))
 
 unfoldable pub both_at : Parser Expr → Parser Expr
 both_at single = made_at say.all (listed_at k.And single)
@@ -107,7 +107,7 @@ where_at n = maybe_at (k.Where ∷ []) (after_at k.Where (expr_at (single_at n))
 unfoldable pub alias_at : Parser (Option Name)
 alias_at = maybe_at (k.As ∷ k.Name ∷ []) (made_at say.second (then_at (maybe_at (k.As ∷ []) (word_at k.As)) name_at))
 
-unfoldable pub source_at : Parser Source
+unfoldable pub source_at : Parser TableRef
 source_at = made_at say.source (then_at name_at (then_at (after_at k.Dot name_at) alias_at))
 
 unfoldable pub inner_at : Parser (Option (Unit {0}))

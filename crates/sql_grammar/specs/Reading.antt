@@ -38,13 +38,13 @@ abbrev pub next_in : List Kind → List Token → Bool
 next_in ks [] = false
 next_in ks (t ∷ ts) = has ks t.kind
 
-abbrev pub accepted : {A : Type 0} → Option A → Token → List Token → Outcome A
-accepted (Some x) t ts = Ok (x, ts)
-accepted None t ts = Err (wrong (t ∷ ts))
+abbrev pub first_as : {A : Type 0} → Option A → Token → List Token → Outcome A
+first_as (Some x) t ts = Ok (x, ts)
+first_as None t ts = Err (wrong (t ∷ ts))
 
 abbrev pub one_at : {A : Type 0} → (Token → Option A) → Parser A
 one_at accept [] = Err (wrong [])
-one_at accept (t ∷ ts) = accepted (accept t) t ts
+one_at accept (t ∷ ts) = first_as (accept t) t ts
 
 abbrev pub then_at : {A B : Type 0} → Parser A → Parser B → Parser (A × B)
 then_at p q ts = p ts >>= λ a. q a.1 >>= λ b. Ok ((a.0, b.0), b.1)

@@ -13,13 +13,13 @@ use Rattle.sql_grammar.specs.declared.ast.Literal.{Literal}
 use Rattle.sql_grammar.specs.declared.ast.Operand.{Operand}
 use Rattle.sp_value.specs.declared.truth.Op.{Op}
 use Rattle.sp_value.specs.declared.truth.Op.TheVariants as op
-use Rattle.sql_grammar.specs.declared.ast.Asked.{Asked}
-use Rattle.sql_grammar.specs.declared.ast.Asked.TheVariants as asked
+use Rattle.sql_grammar.specs.declared.ast.Predicate.{Predicate}
+use Rattle.sql_grammar.specs.declared.ast.Predicate.TheVariants as predicate
 use Rattle.sql_grammar.specs.declared.ast.Expr.{Expr}
 use Rattle.sql_grammar.specs.declared.ast.Expr.TheVariants as e
 use Rattle.sql_grammar.specs.declared.ast.Item.{Item}
 use Rattle.sql_grammar.specs.declared.ast.Shown.{Shown}
-use Rattle.sql_grammar.specs.declared.ast.Source.{Source}
+use Rattle.sql_grammar.specs.declared.ast.TableRef.{TableRef}
 use Rattle.sql_grammar.specs.declared.ast.Join.{Join}
 use Rattle.sql_grammar.specs.declared.ast.Key.{Key}
 use Rattle.sql_grammar.specs.declared.ast.Statement.{Statement}
@@ -73,12 +73,12 @@ constant_by k.Number value = int_by value
 constant_by k.Text value = text_by value
 constant_by _ value = None
 
-abbrev pub placed : ℕ → Option Constant → Option Literal
-placed place None = None
-placed place (Some x) = Some (record { constant = x; place = place })
+abbrev pub constant_literal : ℕ → Option Constant → Option Literal
+constant_literal place None = None
+constant_literal place (Some x) = Some (record { constant = x; place = place })
 
 abbrev pub literal : Token → Option Literal
-literal t = placed t.place (constant_by t.kind t.value)
+literal t = constant_literal t.place (constant_by t.kind t.value)
 
 abbrev pub op_by : Kind → Option Op
 op_by k.Equal = Some op.Eq
@@ -117,10 +117,10 @@ ref p = ref_by p.0 p.1
 abbrev pub item : Ref × Option Name → Item
 item p = record { of = p.0; alias = p.1 }
 
-abbrev pub source : Name × (Name × Option Name) → Source
+abbrev pub source : Name × (Name × Option Name) → TableRef
 source p = record { connection = p.0; table = p.1.0; alias = p.1.1 }
 
-abbrev pub join : Option (Unit {0}) × (Source × Expr) → Join
+abbrev pub join : Option (Unit {0}) × (TableRef × Expr) → Join
 join p = record { source = p.1.0; on = p.1.1 }
 
 -- ascending, where nothing is said
@@ -135,11 +135,11 @@ abbrev pub order : Option (Key × List Key) → List Key
 order None = []
 order (Some keys) = listed keys
 
-abbrev pub test_by : Operand → Option Asked → Expr
-test_by a None = e.Test a asked.Truth
+abbrev pub test_by : Operand → Option Predicate → Expr
+test_by a None = e.Test a predicate.Truth
 test_by a (Some q) = e.Test a q
 
-abbrev pub test : Operand × Option Asked → Expr
+abbrev pub test : Operand × Option Predicate → Expr
 test p = test_by p.0 p.1
 
 -- one member is that member
@@ -157,5 +157,5 @@ any_by a (b ∷ more) = e.Or (a ∷ b ∷ more)
 abbrev pub any : Expr × List Expr → Expr
 any p = any_by p.0 p.1
 
-abbrev pub statement : Shown × (Source × (List Join × (Option Expr × (List Key × (Option ℕ × Option (Unit {0})))))) → Statement
+abbrev pub statement : Shown × (TableRef × (List Join × (Option Expr × (List Key × (Option ℕ × Option (Unit {0})))))) → Statement
 statement p = record { shown = p.0; from = p.1.0; joins = p.1.1.0; test = p.1.1.1.0; order = p.1.1.1.1.0; limit = p.1.1.1.1.1.0 }

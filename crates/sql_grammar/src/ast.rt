@@ -41,7 +41,7 @@ pub enum Operand {
 
 /// What is asked of a test's first operand.
 #[derive(Drop)]
-pub enum Asked {
+pub enum Predicate {
     /// Whether it is true.
     Truth,
     Compares { op: Op, with: Operand },
@@ -55,7 +55,7 @@ pub enum Expr {
     Or(Items<Expr>),
     And(Items<Expr>),
     Not(Boxed<Expr>),
-    Test { of: Operand, asked: Asked },
+    Test { of: Operand, predicate: Predicate },
 }
 
 #[derive(Drop)]
@@ -73,7 +73,7 @@ pub enum Shown {
 
 /// A table of a connection.
 #[derive(Drop)]
-pub struct Source {
+pub struct TableRef {
     pub connection: Name,
     pub table: Name,
     pub alias: Option<Name>,
@@ -82,7 +82,7 @@ pub struct Source {
 /// A further source, and the condition on which its rows are joined.
 #[derive(Drop)]
 pub struct Join {
-    pub source: Source,
+    pub source: TableRef,
     pub on: Expr,
 }
 
@@ -96,7 +96,7 @@ pub struct Key {
 #[derive(Drop)]
 pub struct Statement {
     pub shown: Shown,
-    pub from: Source,
+    pub from: TableRef,
     pub joins: Items<Join>,
     pub test: Option<Expr>,
     pub order: Items<Key>,

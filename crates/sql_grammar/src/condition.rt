@@ -8,7 +8,7 @@ ghost use Rattle.sql_grammar.specs.Parser as spec;
 ghost use Rattle.sql_grammar.specs.Parser.{with_front};
 ghost use Rattle.sql_lex.specs.declared.token.Kind.TheVariants as Kind;
 
-use crate::ast::{Asked, Constant, Expr, Literal, Operand};
+use crate::ast::{Constant, Expr, Literal, Operand, Predicate};
 use crate::stop::Stop;
 use crate::words::{column, next_is, word};
 use sp_value::{Memory, Op, TryCopy};
@@ -153,12 +153,12 @@ fn operand<'a>(alloc: Global, tokens: &'a [Token]) -> Result<(Operand, &'a [Toke
 }
 
 #[tactic(auto, unfolding(crate::specs::Parser::compares_at))]
-fn comparison<'a>(alloc: Global, tokens: &'a [Token]) -> Result<(Asked, &'a [Token]), Stop<'a>>
+fn comparison<'a>(alloc: Global, tokens: &'a [Token]) -> Result<(Predicate, &'a [Token]), Stop<'a>>
     ensures { Gives (λ x. (x.0, x.1.now)) result (spec.compares_at tokens.now) }
 {
     let (op, rest) = operator(tokens)?;
     let (with, rest) = operand(alloc, rest)?;
-    Ok((Asked::Compares { op, with }, rest))
+    Ok((Predicate::Compares { op, with }, rest))
 }
 
 // What goes on with `, literal`, after the first.
@@ -194,30 +194,30 @@ fn list<'a>(alloc: Global, tokens: &'a [Token]) -> Result<(Items<Literal>, &'a [
 }
 
 #[tactic(auto, unfolding(crate::specs::Parser::null_at))]
-fn null<'a>(tokens: &'a [Token]) -> Result<(Asked, &'a [Token]), Stop<'a>>
+fn null<'a>(tokens: &'a [Token]) -> Result<(Predicate, &'a [Token]), Stop<'a>>
     ensures { Gives (λ x. (x.0, x.1.now)) result (spec.null_at tokens.now) }
 {
     let rest = word(tokens, Kind::Is)?;
     if next_is(rest, Kind::Not) {
         let rest = word(rest, Kind::Not)?;
         let rest = word(rest, Kind::Null)?;
-        Ok((Asked::IsNull { negated: true }, rest))
+        Ok((Predicate::IsNull { negated: true }, rest))
     } else {
         let rest = word(rest, Kind::Null)?;
-        Ok((Asked::IsNull { negated: false }, rest))
+        Ok((Predicate::IsNull { negated: false }, rest))
     }
 }
 
-#[tactic(auto, unfolding(crate::specs::Parser::asked_at))]
-fn asked<'a>(alloc: Global, tokens: &'a [Token]) -> Result<(Asked, &'a [Token]), Stop<'a>>
-    ensures { Gives (λ x. (x.0, x.1.now)) result (spec.asked_at tokens.now) }
+#[tactic(auto, unfolding(crate::specs::Parser::predicate_at))]
+fn predicate<'a>(alloc: Global, tokens: &'a [Token]) -> Result<(Predicate, &'a [Token]), Stop<'a>>
+    ensures { Gives (λ x. (x.0, x.1.now)) result (spec.predicate_at tokens.now) }
 {
     if next_compares(tokens) {
         comparison(alloc, tokens)
     } else if next_is(tokens, Kind::In) {
         let (list, rest) = list(alloc, tokens)?;
         Ok((
-            Asked::IsIn {
+            Predicate::IsIn {
                 negated: false,
                 list,
             },
@@ -227,7 +227,7 @@ fn asked<'a>(alloc: Global, tokens: &'a [Token]) -> Result<(Asked, &'a [Token]),
         let rest = word(tokens, Kind::Not)?;
         let (list, rest) = list(alloc, rest)?;
         Ok((
-            Asked::IsIn {
+            Predicate::IsIn {
                 negated: true,
                 list,
             },
@@ -244,13 +244,13 @@ pub fn test<'a>(alloc: Global, tokens: &'a [Token]) -> Result<(Expr, &'a [Token]
 {
     let (of, rest) = operand(alloc, tokens)?;
     if next_asks(rest) {
-        let (asked, rest) = asked(alloc, rest)?;
-        Ok((Expr::Test { of, asked }, rest))
+        let (predicate, rest) = predicate(alloc, rest)?;
+        Ok((Expr::Test { of, predicate }, rest))
     } else {
         Ok((
             Expr::Test {
                 of,
-                asked: Asked::Truth,
+                predicate: Predicate::Truth,
             },
             rest,
         ))

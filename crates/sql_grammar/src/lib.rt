@@ -16,7 +16,8 @@ mod stop;
 mod words;
 
 pub use ast::{
-    Asked, Constant, Expr, Item, Join, Key, Literal, Name, Operand, Ref, Shown, Source, Statement,
+    Constant, Expr, Item, Join, Key, Literal, Name, Operand, Predicate, Ref, Shown, Statement,
+    TableRef,
 };
 pub use statement::parse;
 pub use stop::Stop;

@@ -5,7 +5,7 @@ ghost use Rattle.sql_grammar.specs.Reading.{next_in, has};
 ghost use Rattle.sql_grammar.specs.Gives.{Gives};
 ghost use Rattle.sql_grammar.specs.Parser as spec;
 
-use crate::ast::{Join, Name, Source};
+use crate::ast::{Join, Name, TableRef};
 use crate::expr::expr;
 use crate::stop::Stop;
 use crate::words::{name, next_is, word};
@@ -30,7 +30,7 @@ fn alias<'a>(alloc: Global, tokens: &'a [Token]) -> Result<(Option<Name>, &'a [T
 }
 
 #[tactic(auto, unfolding(crate::specs::Parser::source_at))]
-pub fn source<'a>(alloc: Global, tokens: &'a [Token]) -> Result<(Source, &'a [Token]), Stop<'a>>
+pub fn source<'a>(alloc: Global, tokens: &'a [Token]) -> Result<(TableRef, &'a [Token]), Stop<'a>>
     ensures { Gives (λ x. (x.0, x.1.now)) result (spec.source_at tokens.now) }
 {
     let (connection, rest) = name(alloc, tokens)?;
@@ -38,7 +38,7 @@ pub fn source<'a>(alloc: Global, tokens: &'a [Token]) -> Result<(Source, &'a [To
     let (table, rest) = name(alloc, rest)?;
     let (alias, rest) = alias(alloc, rest)?;
     Ok((
-        Source {
+        TableRef {
             connection,
             table,
             alias,

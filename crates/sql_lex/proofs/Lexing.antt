@@ -10,7 +10,7 @@ use Rattle.sql_lex.specs.declared.lexer.Front.{Front}
 use Rattle.std.specs.Str.{IsUtf8, IsAscii}
 use Rattle.std.proofs.lemmas.Str.{IsUtf8-from_ascii, IsUtf8-drop, IsCharBoundary-before_ascii}
 use Rattle.sql_lex.specs.Quotes.{more, more_bytes}
-use Rattle.sql_lex.specs.Lex.{is_word, is_upper, lower, value_from, limit, signed, front, front_by, is_blank, is_bad, placed, tokens_from}
+use Rattle.sql_lex.specs.Lex.{is_word, is_upper, lower, value_from, limit, signed, front, front_by, is_blank, is_bad, token_at, tokens_from}
 
 -- what was read, before what is to come
 abbrev pub joined : List ℕ → ℕ → Option (List ℕ × ℕ) → Option (List ℕ × ℕ)
@@ -139,13 +139,13 @@ next place z b zero le = absurd (omega arith)
 next place z b (suc m) le = let e : suc m - 1 ≡ m = omega arith in let f : place + 1 + m ≡ place + suc m = omega arith in rw (e, f) refl
 
 pub tokens_good_at : (place b : ℕ) (z : List ℕ) → is_blank b ≡ false → is_bad (front (b ∷ z)).kind ≡ false → 1 ≤ (front (b ∷ z)).len
-    → tokens_from 0 place (b ∷ z) ≡ placed (front (b ∷ z)) place ∷ tokens_from 0 (place + (front (b ∷ z)).len) (drop (front (b ∷ z)).len (b ∷ z))
+    → tokens_from 0 place (b ∷ z) ≡ token_at (front (b ∷ z)) place ∷ tokens_from 0 (place + (front (b ∷ z)).len) (drop (front (b ∷ z)).len (b ∷ z))
 unfolding tokens_from
 tokens_good_at place b z h g moves =
     let n = (front (b ∷ z)).len in
-    rw (h, g) (ap (λ us. placed (front (b ∷ z)) place ∷ us) (tokens_on (n - 1) (place + 1) z ∙ next place z b n moves))
+    rw (h, g) (ap (λ us. token_at (front (b ∷ z)) place ∷ us) (tokens_on (n - 1) (place + 1) z ∙ next place z b n moves))
 
-tokens_bad_at : (place b : ℕ) (z : List ℕ) → is_blank b ≡ false → is_bad (front (b ∷ z)).kind ≡ true → tokens_from 0 place (b ∷ z) ≡ placed (front (b ∷ z)) place ∷ []
+tokens_bad_at : (place b : ℕ) (z : List ℕ) → is_blank b ≡ false → is_bad (front (b ∷ z)).kind ≡ true → tokens_from 0 place (b ∷ z) ≡ token_at (front (b ∷ z)) place ∷ []
 unfolding tokens_from
 tokens_bad_at place b z h g = rw (h, g) refl
 
@@ -157,23 +157,23 @@ module _ (text : List ℕ) (at : ℕ) (lt : at < length text) where
   tokens_blank found h = ap (λ us. found ++ us) (ap (tokens_from 0 at) opened ∙ tokens_blank_at at (get_or text at 0) (drop (at + 1) text) h)
 
   pub tokens_good : (found : List Token) (f : Front) → is_blank (get_or text at 0) ≡ false → f ≡ front (drop at text) → is_bad f.kind ≡ false → 1 ≤ f.len
-      → found ++ tokens_from 0 at (drop at text) ≡ (found ++ placed f at ∷ []) ++ tokens_from 0 (at + f.len) (drop (at + f.len) text)
+      → found ++ tokens_from 0 at (drop at text) ≡ (found ++ token_at f at ∷ []) ++ tokens_from 0 (at + f.len) (drop (at + f.len) text)
   tokens_good found f h is g moves =
       let z = drop (at + 1) text in
       let b = get_or text at 0 in
       let f-is : f ≡ front (b ∷ z) = is ∙ ap front opened in
       let one = tokens_good_at at b z h (subst (λ x. is_bad x.kind ≡ false) f-is g) (subst (λ x. 1 ≤ x.len) f-is moves) in
-      let two : tokens_from 0 at (drop at text) ≡ placed f at ∷ tokens_from 0 (at + f.len) (drop f.len (drop at text)) =
-      ap (tokens_from 0 at) opened ∙ one ∙ subst (λ x. placed (front (b ∷ z)) at ∷ tokens_from 0 (at + (front (b ∷ z)).len) (drop (front (b ∷ z)).len (b ∷ z)) ≡ placed x at ∷ tokens_from 0 (at + x.len) (drop x.len (b ∷ z))) (sym f-is) refl ∙ ap (λ y. placed f at ∷ tokens_from 0 (at + f.len) (drop f.len y)) (sym opened) in
-      ap (λ us. found ++ us) (two ∙ ap (λ y. placed f at ∷ tokens_from 0 (at + f.len) y) (drop-drop f.len at text ∙ ap (λ k. drop k text) (omega arith))) ∙ sym (append_assoc found (placed f at ∷ []) (tokens_from 0 (at + f.len) (drop (at + f.len) text)))
+      let two : tokens_from 0 at (drop at text) ≡ token_at f at ∷ tokens_from 0 (at + f.len) (drop f.len (drop at text)) =
+      ap (tokens_from 0 at) opened ∙ one ∙ subst (λ x. token_at (front (b ∷ z)) at ∷ tokens_from 0 (at + (front (b ∷ z)).len) (drop (front (b ∷ z)).len (b ∷ z)) ≡ token_at x at ∷ tokens_from 0 (at + x.len) (drop x.len (b ∷ z))) (sym f-is) refl ∙ ap (λ y. token_at f at ∷ tokens_from 0 (at + f.len) (drop f.len y)) (sym opened) in
+      ap (λ us. found ++ us) (two ∙ ap (λ y. token_at f at ∷ tokens_from 0 (at + f.len) y) (drop-drop f.len at text ∙ ap (λ k. drop k text) (omega arith))) ∙ sym (append_assoc found (token_at f at ∷ []) (tokens_from 0 (at + f.len) (drop (at + f.len) text)))
 
   pub tokens_bad : (found : List Token) (f : Front) → is_blank (get_or text at 0) ≡ false → f ≡ front (drop at text) → is_bad f.kind ≡ true
-      → found ++ tokens_from 0 at (drop at text) ≡ found ++ placed f at ∷ []
+      → found ++ tokens_from 0 at (drop at text) ≡ found ++ token_at f at ∷ []
   tokens_bad found f h is g =
       let z = drop (at + 1) text in
       let b = get_or text at 0 in
       let f-is : f ≡ front (b ∷ z) = is ∙ ap front opened in
-      ap (λ us. found ++ us) (ap (tokens_from 0 at) opened ∙ tokens_bad_at at b z h (subst (λ x. is_bad x.kind ≡ true) f-is g) ∙ ap (λ x. placed x at ∷ []) (sym f-is))
+      ap (λ us. found ++ us) (ap (tokens_from 0 at) opened ∙ tokens_bad_at at b z h (subst (λ x. is_bad x.kind ≡ true) f-is g) ∙ ap (λ x. token_at x at ∷ []) (sym f-is))
 
 pub tokens_end : (at : ℕ) (text : List ℕ) → length text ≤ at → tokens_from 0 at (drop at text) ≡ []
 unfolding tokens_from

@@ -144,8 +144,8 @@ unfoldable pub front : List ℕ → Front
 front [] = bad
 front (b ∷ z) = front_by b (b ∷ z)
 
-abbrev pub placed : Front → ℕ → Token
-placed f place = record { kind = f.kind; value = f.value; place = place }
+abbrev pub token_at : Front → ℕ → Token
+token_at f place = record { kind = f.kind; value = f.value; place = place }
 
 abbrev pub is_bad : Kind → Bool
 is_bad k.Bad = true
@@ -157,7 +157,7 @@ tokens_from left place [] = []
 tokens_from (suc left) place (b ∷ z) = tokens_from left (place + 1) z
 tokens_from zero place (b ∷ z) =
     if is_blank b then tokens_from 0 (place + 1) z
-    else placed (front (b ∷ z)) place ∷ (if is_bad (front (b ∷ z)).kind then [] else tokens_from ((front (b ∷ z)).len - 1) (place + 1) z)
+    else token_at (front (b ∷ z)) place ∷ (if is_bad (front (b ∷ z)).kind then [] else tokens_from ((front (b ∷ z)).len - 1) (place + 1) z)
 
 -- the tokens of a text
 abbrev pub tokens : List ℕ → List Token

@@ -16,6 +16,7 @@ mod reading;
 pub use fault::SqlFault;
 pub use reading::parse;
 pub use sql_grammar::{
-    Asked, Constant, Expr, Item, Join, Key, Literal, Name, Operand, Ref, Shown, Source, Statement,
+    Constant, Expr, Item, Join, Key, Literal, Name, Operand, Predicate, Ref, Shown, Statement,
+    TableRef,
 };
 pub use sql_print::print;

@@ -7,7 +7,7 @@ use Rattle.sql_lex.specs.declared.token.Kind.TheVariants as k
 use Rattle.sql_lex.specs.declared.token.Value.{Value}
 use Rattle.sql_lex.specs.declared.token.Value.TheVariants as v
 use Rattle.sql_lex.specs.declared.lexer.Front.{Front}
-use Rattle.sql_lex.specs.Lex.{is_letter, is_word, is_digit, is_blank, is_bad, is_plain, lower, first, all_pass, reserved, front, front_of, placed, tokens_from, limit, sign_of}
+use Rattle.sql_lex.specs.Lex.{is_letter, is_word, is_digit, is_blank, is_bad, is_plain, lower, first, all_pass, reserved, front, front_of, token_at, tokens_from, limit, sign_of}
 use Rattle.sql_lex.specs.Quotes.{NoQuote}
 use Rattle.sql_lex.proofs.QuoteLaws.{Past}
 use Rattle.sql_lex.proofs.Lexing.{tokens_blank_at, tokens_good_at}
@@ -206,17 +206,17 @@ drop_front [] rest = refl
 drop_front (b ∷ z) rest = drop_front z rest
 
 one_by : (place b : ℕ) (z rest : List ℕ) (kind : Kind) (value : Value) → is_blank b ≡ false → is_bad kind ≡ false → front (b ∷ z ++ rest) ≡ front_of kind value (length (b ∷ z))
-    → tokens_from 0 place (b ∷ z ++ rest) ≡ placed (front_of kind value (length (b ∷ z))) place ∷ tokens_from 0 (place + length (b ∷ z)) rest
+    → tokens_from 0 place (b ∷ z ++ rest) ≡ token_at (front_of kind value (length (b ∷ z))) place ∷ tokens_from 0 (place + length (b ∷ z)) rest
 one_by place b z rest kind value solid good is =
     let f = front (b ∷ z ++ rest) in
     let kind-is : is_bad f.kind ≡ false = ap (λ (x : Front). is_bad x.kind) is ∙ good in
     let moves : 1 ≤ f.len = subst (λ (x : Front). 1 ≤ x.len) (sym is) (omega arith) in
     tokens_good_at place b (z ++ rest) solid kind-is moves
-    ∙ subst (λ (x : Front). placed f place ∷ tokens_from 0 (place + f.len) (drop f.len (b ∷ z ++ rest)) ≡ placed x place ∷ tokens_from 0 (place + x.len) (drop x.len (b ∷ z ++ rest))) is refl
-    ∙ ap (λ (us : List ℕ). placed (front_of kind value (length (b ∷ z))) place ∷ tokens_from 0 (place + length (b ∷ z)) us) (drop_front (b ∷ z) rest)
+    ∙ subst (λ (x : Front). token_at f place ∷ tokens_from 0 (place + f.len) (drop f.len (b ∷ z ++ rest)) ≡ token_at x place ∷ tokens_from 0 (place + x.len) (drop x.len (b ∷ z ++ rest))) is refl
+    ∙ ap (λ (us : List ℕ). token_at (front_of kind value (length (b ∷ z))) place ∷ tokens_from 0 (place + length (b ∷ z)) us) (drop_front (b ∷ z) rest)
 
 one_token : (place : ℕ) (z rest : List ℕ) (kind : Kind) (value : Value) → Starts z → is_bad kind ≡ false → front (z ++ rest) ≡ front_of kind value (length z)
-    → tokens_from 0 place (z ++ rest) ≡ placed (front_of kind value (length z)) place ∷ tokens_from 0 (place + length z) rest
+    → tokens_from 0 place (z ++ rest) ≡ token_at (front_of kind value (length z)) place ∷ tokens_from 0 (place + length z) rest
 one_token place [] rest kind value s good is = absurd (let e = s.is in cc)
 one_token place (b ∷ z) rest kind value s good is = let same : b ≡ s.head = (let e = s.is in cc) in one_by place b z rest kind value (subst (λ c. is_blank c ≡ false) (sym same) s.solid) good is
 
@@ -243,7 +243,7 @@ pub relexed : (last : Option Kind) (ws : List Bare) (place : ℕ) → AllSayable
 relexed last [] place h = nothing place
 relexed last (w ∷ ws) place h =
     let rest = written (Some w.0) ws in
-    let one : (at : ℕ) → tokens_from 0 at (spelling w ++ rest) ≡ placed (front_of w.0 w.1 (length (spelling w))) at ∷ tokens_from 0 (at + length (spelling w)) rest =
+    let one : (at : ℕ) → tokens_from 0 at (spelling w ++ rest) ≡ token_at (front_of w.0 w.1 (length (spelling w))) at ∷ tokens_from 0 (at + length (spelling w)) rest =
     λ at. one_token at (spelling w) rest w.0 w.1 (starts w h.0) (not_bad w.0 w.1 h.0) (back_by w.0 w.1 rest h.0 (follows w.0 ws h.1)) in
     let more : (at : ℕ) → bares (tokens_from 0 at (spelling w ++ rest)) ≡ w ∷ ws =
     λ at. ap bares (one at) ∙ ap (λ (bs : List Bare). w ∷ bs) (relexed (Some w.0) ws (at + length (spelling w)) h.1) in

@@ -16,20 +16,20 @@ use Rattle.sql_grammar.specs.declared.ast.Operand.{Operand}
 use Rattle.sql_grammar.specs.declared.ast.Operand.TheVariants as operand
 use Rattle.sp_value.specs.declared.truth.Op.{Op}
 use Rattle.sp_value.specs.declared.truth.Op.TheVariants as op
-use Rattle.sql_grammar.specs.declared.ast.Asked.{Asked}
-use Rattle.sql_grammar.specs.declared.ast.Asked.TheVariants as asked
+use Rattle.sql_grammar.specs.declared.ast.Predicate.{Predicate}
+use Rattle.sql_grammar.specs.declared.ast.Predicate.TheVariants as predicate
 use Rattle.sql_grammar.specs.declared.ast.Expr.{Expr}
 use Rattle.sql_grammar.specs.declared.ast.Shown.{Shown}
 use Rattle.sql_grammar.specs.declared.ast.Shown.TheVariants as shown
-use Rattle.sql_grammar.specs.declared.ast.Source.{Source}
+use Rattle.sql_grammar.specs.declared.ast.TableRef.{TableRef}
 use Rattle.sql_grammar.specs.declared.ast.Join.{Join}
 use Rattle.sql_grammar.specs.declared.ast.Key.{Key}
 use Rattle.sql_grammar.specs.declared.ast.Statement.{Statement}
 use Rattle.sql_grammar.specs.Language.{Lang, One, Made, Maybe, Many, Either}
 use Rattle.sql_grammar.specs.Reading.{same}
 use Rattle.sql_grammar.specs.Says as say
-use Rattle.sql_grammar.specs.Grammar.{Word, After, Listed, RefPhrase, ItemPhrase, ShownPhrase, OperandPhrase, ComparesPhrase, ListPhrase, NullPhrase, AskedPhrase, TestPhrase, ExprPhrase, SinglePhrase, AliasPhrase, SourcePhrase, JoinPhrase, KeyPhrase, WherePhrase, OrderPhrase, LimitPhrase, StatementPhrase}
-use Rattle.sql_print.specs.Said.{Bare, bare, bares, fixed, said_name, said_ref, constant_bare, said_literal, said_operand, op_kind, said_literals, said_asked, said, said_expr, said_alias, said_item, said_shown, said_source, said_join, said_joins, said_where, said_direction, said_key, said_keys, said_order, said_limit, said_statement}
+use Rattle.sql_grammar.specs.Grammar.{Word, After, Listed, RefPhrase, ItemPhrase, ShownPhrase, OperandPhrase, ComparesPhrase, ListPhrase, NullPhrase, PredicatePhrase, TestPhrase, ExprPhrase, SinglePhrase, AliasPhrase, SourcePhrase, JoinPhrase, KeyPhrase, WherePhrase, OrderPhrase, LimitPhrase, StatementPhrase}
+use Rattle.sql_print.specs.Said.{Bare, bare, bares, fixed, said_name, said_ref, constant_bare, said_literal, said_operand, op_kind, said_literals, said_predicate, said, said_expr, said_alias, said_item, said_shown, said_source, said_join, said_joins, said_where, said_direction, said_key, said_keys, said_order, said_limit, said_statement}
 use Rattle.sql_print.specs.Placeless as less
 use Rattle.sql_print.proofs.SaidLaws.{said_test_is, expr_test}
 use Rattle.sql_print.proofs.Sayable.{AllSayable, sayable, has_text}
@@ -41,9 +41,9 @@ use Rattle.sql_print.proofs.Trip.{again_expr}
 same_refl : (kind : Kind) → same kind kind ≡ true
 same_refl kind = eq-eqb _ _ refl
 
-accepted : {A : Type 0} (b : Bool) (o : Option A) (y : A) → cond b o None ≡ Some y → (b ≡ true) × (o ≡ Some y)
-accepted true o y h = (refl, h)
-accepted false o y h = absurd cc
+both_held : {A : Type 0} (b : Bool) (o : Option A) (y : A) → cond b o None ≡ Some y → (b ≡ true) × (o ≡ Some y)
+both_held true o y h = (refl, h)
+both_held false o y h = absurd cc
 
 -- a token is its bare form at its place
 name_value : (value : Value) (place : ℕ) (x : Name) → say.name_by value place ≡ Some x → (value ≡ v.Text x.text) × (has_text k.Name x.text ≡ true)
@@ -58,7 +58,7 @@ name_says (b ∷ bs) place h = refl
 
 name_each : (t : Token) (x : Name) → say.name t ≡ Some x → (u : Token) → bare u ≡ (k.Name, v.Text x.text) → OneSays say.name less.name u x
 name_each t x h u is =
-    let a = accepted (same t.kind k.Name) (say.name_by t.value t.place) x h in
+    let a = both_held (same t.kind k.Name) (say.name_by t.value t.place) x h in
     let text = (name_value t.value t.place x a.1).1 in
     let kind : u.kind ≡ k.Name = ap (λ (b : Bare). b.0) is in
     let value : u.value ≡ v.Text x.text = ap (λ (b : Bare). b.1) is in
@@ -66,7 +66,7 @@ name_each t x h u is =
     record { value = record { text = x.text; place = u.place }; says = says; same = refl }
 
 name_spelled : (t : Token) (x : Name) → say.name t ≡ Some x → has_text k.Name x.text ≡ true
-name_spelled t x h = let a = accepted (same t.kind k.Name) (say.name_by t.value t.place) x h in (name_value t.value t.place x a.1).1
+name_spelled t x h = let a = both_held (same t.kind k.Name) (say.name_by t.value t.place) x h in (name_value t.value t.place x a.1).1
 
 name : Again (One say.name) said_name less.name
 name = again_one say.name (λ n. (k.Name, v.Text n.text)) less.name name_each name_spelled
@@ -75,21 +75,21 @@ name = again_one say.name (λ n. (k.Name, v.Text n.text)) less.name name_each na
 limit_value : (value : Value) (n : ℕ) → say.limit_by value ≡ Some n → (value ≡ v.Number (pos n)) × (ltb n limit ≡ true)
 limit_value v.Fixed n h = absurd cc
 limit_value (v.Text bs) n h = absurd cc
-limit_value (v.Number (pos m)) n h = let a = accepted (ltb m limit) (Some m) n h in let is : m ≡ n = some_is m n a.1 in (ap (λ x. v.Number (pos x)) is, subst (λ x. ltb x limit ≡ true) is a.0) where
+limit_value (v.Number (pos m)) n h = let a = both_held (ltb m limit) (Some m) n h in let is : m ≡ n = some_is m n a.1 in (ap (λ x. v.Number (pos x)) is, subst (λ x. ltb x limit ≡ true) is a.0) where
   some_is : (x y : ℕ) → Some x ≡ Some y → x ≡ y
   some_is x y e = cc
 limit_value (v.Number (negsuc m)) n h = absurd cc
 
 number_each : (t : Token) (n : ℕ) → say.number t ≡ Some n → (u : Token) → bare u ≡ (k.Number, v.Number (pos n)) → OneSays say.number (λ (m : ℕ). m) u n
 number_each t n h u is =
-    let a = accepted (same t.kind k.Number) (say.limit_by t.value) n h in
+    let a = both_held (same t.kind k.Number) (say.limit_by t.value) n h in
     let below = (limit_value t.value n a.1).1 in
     let kind : u.kind ≡ k.Number = ap (λ (b : Bare). b.0) is in
     let value : u.value ≡ v.Number (pos n) = ap (λ (b : Bare). b.1) is in
     record { value = n; says = rw (kind, value) (rw below refl); same = refl }
 
 number_spelled : (t : Token) (n : ℕ) → say.number t ≡ Some n → sayable (k.Number, v.Number (pos n)) ≡ true
-number_spelled t n h = let a = accepted (same t.kind k.Number) (say.limit_by t.value) n h in (limit_value t.value n a.1).1
+number_spelled t n h = let a = both_held (same t.kind k.Number) (say.limit_by t.value) n h in (limit_value t.value n a.1).1
 
 number : Again (One say.number) (λ n. (k.Number, v.Number (pos n)) ∷ []) (λ n. n)
 number = again_one say.number (λ n. (k.Number, v.Number (pos n))) (λ n. n) number_each number_spelled
@@ -107,7 +107,7 @@ constant_sayable k.False value x h = subst (λ z. sayable (constant_bare z) ≡ 
   some_is x y e = cc
 constant_sayable k.Number v.Fixed x h = absurd cc
 constant_sayable k.Number (v.Text bs) x h = absurd cc
-constant_sayable k.Number (v.Number n) x h = let a = accepted (say.in_range n) (Some (c.Int n)) x h in subst (λ z. sayable (constant_bare z) ≡ true) (some_is (c.Int n) x a.1) a.0 where
+constant_sayable k.Number (v.Number n) x h = let a = both_held (say.in_range n) (Some (c.Int n)) x h in subst (λ z. sayable (constant_bare z) ≡ true) (some_is (c.Int n) x a.1) a.0 where
   some_is : (x y : Constant) → Some x ≡ Some y → x ≡ y
   some_is x y e = cc
 constant_sayable k.Text v.Fixed x h = absurd cc
@@ -125,21 +125,21 @@ constant_says (c.Bool false) h = refl
 constant_says (c.Int n) h = rw h refl
 constant_says (c.Text bs) h = refl
 
-placed_is : (place : ℕ) (o : Option Constant) (x : Literal) → say.placed place o ≡ Some x → o ≡ Some x.constant
-placed_is place None x h = absurd cc
-placed_is place (Some y) x h = ap Some (by (record { constant = y; place = place }) x h) where
+constant_literal_is : (place : ℕ) (o : Option Constant) (x : Literal) → say.constant_literal place o ≡ Some x → o ≡ Some x.constant
+constant_literal_is place None x h = absurd cc
+constant_literal_is place (Some y) x h = ap Some (by (record { constant = y; place = place }) x h) where
   by : (a b : Literal) → Some a ≡ Some b → a.constant ≡ b.constant
   by a b e = let is : a ≡ b = cc in ap (λ (l : Literal). l.constant) is
 
 literal_spelled : (t : Token) (x : Literal) → say.literal t ≡ Some x → sayable (constant_bare x.constant) ≡ true
-literal_spelled t x h = constant_sayable t.kind t.value x.constant (placed_is t.place (say.constant_by t.kind t.value) x h)
+literal_spelled t x h = constant_sayable t.kind t.value x.constant (constant_literal_is t.place (say.constant_by t.kind t.value) x h)
 
 literal_each : (t : Token) (x : Literal) → say.literal t ≡ Some x → (u : Token) → bare u ≡ constant_bare x.constant → OneSays say.literal less.literal u x
 literal_each t x h u is =
     let kind : u.kind ≡ (constant_bare x.constant).0 = ap (λ (b : Bare). b.0) is in
     let value : u.value ≡ (constant_bare x.constant).1 = ap (λ (b : Bare). b.1) is in
     let says : say.constant_by u.kind u.value ≡ Some x.constant = rw (kind, value) (constant_says x.constant (literal_spelled t x h)) in
-    record { value = record { constant = x.constant; place = u.place }; says = ap (say.placed u.place) says; same = refl }
+    record { value = record { constant = x.constant; place = u.place }; says = ap (say.constant_literal u.place) says; same = refl }
 
 literal : Again (One say.literal) said_literal less.literal
 literal = again_one say.literal (λ l. constant_bare l.constant) less.literal literal_each literal_spelled
@@ -187,34 +187,34 @@ operand_again = again_either
     (again_made operand.Ref said_operand less.operand_of operand.Ref (λ r. refl) (λ r. refl) ref)
     (again_made operand.Literal said_operand less.operand_of operand.Literal (λ l. refl) (λ l. refl) literal)
 
-compares : Again ComparesPhrase said_asked less.asked_of
-compares = again_made (λ p. asked.Compares p.0 p.1) said_asked less.asked_of (λ p. asked.Compares p.0 p.1) (λ p. refl) (λ p. refl) (again_joined operator operand_again)
+compares : Again ComparesPhrase said_predicate less.predicate_of
+compares = again_made (λ p. predicate.Compares p.0 p.1) said_predicate less.predicate_of (λ p. predicate.Compares p.0 p.1) (λ p. refl) (λ p. refl) (again_joined operator operand_again)
 
 listing : Again ListPhrase (λ ls. fixed k.In ++ (fixed k.Open ++ (said_literals ls ++ fixed k.Close))) (map less.literal)
 listing = again_after k.In refl (again_after k.Open refl (again_before k.Close refl (again_made say.listed said_literals (map less.literal) say.listed (λ p. refl) (λ p. refl) (again_listed k.Comma refl literal))))
 
-null_said : (n : Option (Unit {0})) → said_asked (asked.IsNull (say.is_there n)) ≡ fixed k.Is ++ (said_maybe (again_word k.Not refl) n ++ fixed k.Null)
+null_said : (n : Option (Unit {0})) → said_predicate (predicate.IsNull (say.is_there n)) ≡ fixed k.Is ++ (said_maybe (again_word k.Not refl) n ++ fixed k.Null)
 null_said None = refl
 null_said (Some u) = refl
 
-null_less : (n : Option (Unit {0})) → less.asked_of (asked.IsNull (say.is_there n)) ≡ asked.IsNull (say.is_there (option_map (λ (u : Unit {0}). u) n))
+null_less : (n : Option (Unit {0})) → less.predicate_of (predicate.IsNull (say.is_there n)) ≡ predicate.IsNull (say.is_there (option_map (λ (u : Unit {0}). u) n))
 null_less None = refl
 null_less (Some u) = refl
 
-null : Again NullPhrase said_asked less.asked_of
-null = again_made (λ n. asked.IsNull (say.is_there n)) said_asked less.asked_of (λ n. asked.IsNull (say.is_there n)) null_said null_less (again_after k.Is refl (again_before k.Null refl (again_maybe (again_word k.Not refl))))
+null : Again NullPhrase said_predicate less.predicate_of
+null = again_made (λ n. predicate.IsNull (say.is_there n)) said_predicate less.predicate_of (λ n. predicate.IsNull (say.is_there n)) null_said null_less (again_after k.Is refl (again_before k.Null refl (again_maybe (again_word k.Not refl))))
 
-asked_again : Again AskedPhrase said_asked less.asked_of
+asked_again : Again PredicatePhrase said_predicate less.predicate_of
 asked_again = again_either compares (again_either
-    (again_made (asked.IsIn false) said_asked less.asked_of (asked.IsIn false) (λ l. refl) (λ l. refl) listing)
-    (again_either (again_made (asked.IsIn true) said_asked less.asked_of (asked.IsIn true) (λ l. refl) (λ l. refl) (again_after k.Not refl listing)) null))
+    (again_made (predicate.IsIn false) said_predicate less.predicate_of (predicate.IsIn false) (λ l. refl) (λ l. refl) listing)
+    (again_either (again_made (predicate.IsIn true) said_predicate less.predicate_of (predicate.IsIn true) (λ l. refl) (λ l. refl) (again_after k.Not refl listing)) null))
 
-test_said : (of : Operand) (o : Option Asked) → (said (say.test_by of o)).in_and ≡ said_operand of ++ said_maybe asked_again o
-test_said of None = ap (λ z. z.in_and) (said_test_is of asked.Truth)
+test_said : (of : Operand) (o : Option Predicate) → (said (say.test_by of o)).in_and ≡ said_operand of ++ said_maybe asked_again o
+test_said of None = ap (λ z. z.in_and) (said_test_is of predicate.Truth)
 test_said of (Some q) = ap (λ z. z.in_and) (said_test_is of q)
 
-test_less : (of : Operand) (o : Option Asked) → less.expr (say.test_by of o) ≡ say.test_by (less.operand_of of) (option_map less.asked_of o)
-test_less of None = expr_test of asked.Truth
+test_less : (of : Operand) (o : Option Predicate) → less.expr (say.test_by of o) ≡ say.test_by (less.operand_of of) (option_map less.predicate_of o)
+test_less of None = expr_test of predicate.Truth
 test_less of (Some q) = expr_test of q
 
 test : Again TestPhrase (λ x. (said x).in_and) less.expr
@@ -257,7 +257,7 @@ source = again_made say.source said_source less.source say.source (λ p. ap (λ 
     (again_joined name (again_joined (again_after k.Dot refl name) (again_maybe alias)))
 
 join : (n : ℕ) → Again (JoinPhrase (SinglePhrase n)) said_join less.join
-join n = again_made say.join said_join less.join (λ (p : Unit {0} × (Source × Expr)). record { source = p.1.0; on = p.1.1 }) (λ p. refl) (λ p. refl)
+join n = again_made say.join said_join less.join (λ (p : Unit {0} × (TableRef × Expr)). record { source = p.1.0; on = p.1.1 }) (λ p. refl) (λ p. refl)
     (again_joined (again_absent (Word k.Inner)) (again_after k.Join refl (again_joined source (again_after k.On refl (condition n)))))
 
 joins_said : (n : ℕ) (js : List Join) → said_joins js ≡ said_many (join n) js
@@ -326,13 +326,13 @@ limit_again = again_as said_limit (λ o. o) (λ o. o) limit_said limit_less (aga
 -- ---- statements
 
 abbrev Bared : Type 0
-Bared = Shown × (Source × (List Join × (Option Expr × (List Key × (Option ℕ × Unit {0})))))
+Bared = Shown × (TableRef × (List Join × (Option Expr × (List Key × (Option ℕ × Unit {0})))))
 
 abbrev rebuilt : Bared → Statement
 rebuilt p = record { shown = p.0; from = p.1.0; joins = p.1.1.0; test = p.1.1.1.0; order = p.1.1.1.1.0; limit = p.1.1.1.1.1.0 }
 
 abbrev Parts : Type 0
-Parts = Shown × (Source × (List Join × (Option Expr × (List Key × (Option ℕ × Option (Unit {0}))))))
+Parts = Shown × (TableRef × (List Join × (Option Expr × (List Key × (Option ℕ × Option (Unit {0}))))))
 
 statement_said : (p : Parts) → said_statement (say.statement p) ≡ fixed k.Select ++ (said_shown p.0 ++ ((fixed k.From ++ said_source p.1.0) ++ (said_joins p.1.1.0 ++ (said_where p.1.1.1.0 ++ (said_order p.1.1.1.1.0 ++ (said_limit p.1.1.1.1.1.0 ++ []))))))
 statement_said p = ap (λ (ts : List Bare). fixed k.Select ++ (said_shown p.0 ++ (fixed k.From ++ (said_source p.1.0 ++ (said_joins p.1.1.0 ++ (said_where p.1.1.1.0 ++ (said_order p.1.1.1.1.0 ++ ts))))))) (sym (append-nil (said_limit p.1.1.1.1.1.0)))

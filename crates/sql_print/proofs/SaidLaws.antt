@@ -3,7 +3,7 @@ use Rattle.std.proofs.Common.{◌≡◌, ℕ, zero, suc, List, [], ◌∷◌, ma
 use Rattle.sql_lex.specs.declared.token.Kind.{Kind}
 use Rattle.sql_lex.specs.declared.token.Kind.TheVariants as k
 use Rattle.sql_grammar.specs.declared.ast.Operand.{Operand}
-use Rattle.sql_grammar.specs.declared.ast.Asked.{Asked}
+use Rattle.sql_grammar.specs.declared.ast.Predicate.{Predicate}
 use Rattle.sql_grammar.specs.declared.ast.Expr.{Expr, fold-Expr, fold-roll-Expr}
 use Rattle.sql_grammar.specs.declared.ast.Expr.TheVariants as e
 use Rattle.sql_grammar.specs.declared.ast.Expr.TheVariants.{rolls-Or, rolls-And, rolls-Not, rolls-Test}
@@ -24,9 +24,9 @@ pub said_not : (x : Expr) → said (e.Not x) ≡ said_layer (Expr-F.Not (said x)
 unfolding said
 said_not x = ap (fold-Expr Said said_layer) (sym (rolls-Not x)) ∙ fold-roll-Expr Said said_layer (Expr-F.Not x)
 
-pub said_test_is : (of : Operand) (asked : Asked) → said (e.Test of asked) ≡ said_layer (Expr-F.Test of asked)
+pub said_test_is : (of : Operand) (predicate : Predicate) → said (e.Test of predicate) ≡ said_layer (Expr-F.Test of predicate)
 unfolding said
-said_test_is of asked = ap (fold-Expr Said said_layer) (sym (rolls-Test of asked)) ∙ fold-roll-Expr Said said_layer (Expr-F.Test of asked)
+said_test_is of predicate = ap (fold-Expr Said said_layer) (sym (rolls-Test of predicate)) ∙ fold-roll-Expr Said said_layer (Expr-F.Test of predicate)
 
 pub ruleset laws = (said_or, said_and, said_not, said_test_is)
 
@@ -65,6 +65,6 @@ pub expr_not : (x : Expr) → expr (e.Not x) ≡ e.Not (expr x)
 unfolding expr
 expr_not x = ap (fold-Expr Expr expr_layer) (sym (rolls-Not x)) ∙ fold-roll-Expr Expr expr_layer (Expr-F.Not x)
 
-pub expr_test : (of : Operand) (asked : Asked) → expr (e.Test of asked) ≡ e.Test (bare.operand_of of) (bare.asked_of asked)
+pub expr_test : (of : Operand) (predicate : Predicate) → expr (e.Test of predicate) ≡ e.Test (bare.operand_of of) (bare.predicate_of predicate)
 unfolding expr
-expr_test of asked = ap (fold-Expr Expr expr_layer) (sym (rolls-Test of asked)) ∙ fold-roll-Expr Expr expr_layer (Expr-F.Test of asked)
+expr_test of predicate = ap (fold-Expr Expr expr_layer) (sym (rolls-Test of predicate)) ∙ fold-roll-Expr Expr expr_layer (Expr-F.Test of predicate)

@@ -3,7 +3,7 @@ use Rattle.std.proofs.Common.{◌≡◌, ℕ, zero, suc, List, [], ◌∷◌, �
 use Rattle.sql_lex.specs.declared.token.Kind.TheVariants as k
 use Rattle.sql_lex.specs.declared.token.Token.{Token}
 use Rattle.sql_grammar.specs.declared.ast.Operand.{Operand}
-use Rattle.sql_grammar.specs.declared.ast.Asked.{Asked}
+use Rattle.sql_grammar.specs.declared.ast.Predicate.{Predicate}
 use Rattle.sql_grammar.specs.declared.ast.Expr.{Expr}
 use Rattle.sql_grammar.specs.declared.ast.Expr.TheVariants as e
 use Rattle.sql_grammar.specs.Says as say
@@ -169,7 +169,7 @@ module _ (L : List Token → Expr → Type 0) (t : Trio L) where
 -- what is said of a test is the same everywhere
 test_said : (ts : List Token) (x : Expr) → TestPhrase ts x → ((S x).alone ≡ (S x).in_and) × ((S x).in_or ≡ (S x).in_and)
 test_said ts x m = by m.inner.0 m.inner.1 m.says where
-  by : (of : Operand) (o : Option Asked) → x ≡ say.test_by of o → ((S x).alone ≡ (S x).in_and) × ((S x).in_or ≡ (S x).in_and)
+  by : (of : Operand) (o : Option Predicate) → x ≡ say.test_by of o → ((S x).alone ≡ (S x).in_and) × ((S x).in_or ≡ (S x).in_and)
   by of None is = let h = ap S is ∙ said_test_is of _ in (ap (λ (z : Said). z.alone) h ∙ sym (ap (λ (z : Said). z.in_and) h), ap (λ (z : Said). z.in_or) h ∙ sym (ap (λ (z : Said). z.in_and) h))
   by of (Some q) is = let h = ap S is ∙ said_test_is of q in (ap (λ (z : Said). z.alone) h ∙ sym (ap (λ (z : Said). z.in_and) h), ap (λ (z : Said). z.in_or) h ∙ sym (ap (λ (z : Said). z.in_and) h))
 

@@ -5,15 +5,15 @@ use Rattle.sql_grammar.specs.declared.ast.Ref.{Ref}
 use Rattle.sql_grammar.specs.declared.ast.Literal.{Literal}
 use Rattle.sql_grammar.specs.declared.ast.Operand.{Operand}
 use Rattle.sql_grammar.specs.declared.ast.Operand.TheVariants as operand
-use Rattle.sql_grammar.specs.declared.ast.Asked.{Asked}
-use Rattle.sql_grammar.specs.declared.ast.Asked.TheVariants as asked
+use Rattle.sql_grammar.specs.declared.ast.Predicate.{Predicate}
+use Rattle.sql_grammar.specs.declared.ast.Predicate.TheVariants as predicate
 use Rattle.sql_grammar.specs.declared.ast.Expr.{Expr, fold-Expr}
 use Rattle.sql_grammar.specs.declared.ast.Expr.TheVariants as e
 use Rattle.sql_grammar.specs.declared.ast.Expr.TheOpen.{Expr-F}
 use Rattle.sql_grammar.specs.declared.ast.Item.{Item}
 use Rattle.sql_grammar.specs.declared.ast.Shown.{Shown}
 use Rattle.sql_grammar.specs.declared.ast.Shown.TheVariants as shown
-use Rattle.sql_grammar.specs.declared.ast.Source.{Source}
+use Rattle.sql_grammar.specs.declared.ast.TableRef.{TableRef}
 use Rattle.sql_grammar.specs.declared.ast.Join.{Join}
 use Rattle.sql_grammar.specs.declared.ast.Key.{Key}
 use Rattle.sql_grammar.specs.declared.ast.Statement.{Statement}
@@ -31,17 +31,17 @@ abbrev pub operand_of : Operand → Operand
 operand_of (operand.Ref r) = operand.Ref (ref r)
 operand_of (operand.Literal l) = operand.Literal (literal l)
 
-abbrev pub asked_of : Asked → Asked
-asked_of asked.Truth = asked.Truth
-asked_of (asked.Compares op with) = asked.Compares op (operand_of with)
-asked_of (asked.IsIn negated list) = asked.IsIn negated (map literal list)
-asked_of (asked.IsNull negated) = asked.IsNull negated
+abbrev pub predicate_of : Predicate → Predicate
+predicate_of predicate.Truth = predicate.Truth
+predicate_of (predicate.Compares op with) = predicate.Compares op (operand_of with)
+predicate_of (predicate.IsIn negated list) = predicate.IsIn negated (map literal list)
+predicate_of (predicate.IsNull negated) = predicate.IsNull negated
 
 abbrev pub expr_layer : Expr-F Expr → Expr
 expr_layer (Expr-F.Or xs) = e.Or xs
 expr_layer (Expr-F.And xs) = e.And xs
 expr_layer (Expr-F.Not x) = e.Not x
-expr_layer (Expr-F.Test of asked) = e.Test (operand_of of) (asked_of asked)
+expr_layer (Expr-F.Test of predicate) = e.Test (operand_of of) (predicate_of predicate)
 
 unfoldable pub expr : Expr → Expr
 expr = fold-Expr Expr expr_layer
@@ -53,7 +53,7 @@ abbrev pub shown_of : Shown → Shown
 shown_of shown.All = shown.All
 shown_of (shown.Items items) = shown.Items (map item items)
 
-abbrev pub source : Source → Source
+abbrev pub source : TableRef → TableRef
 source s = record { connection = name s.connection; table = name s.table; alias = option_map name s.alias }
 
 abbrev pub join : Join → Join

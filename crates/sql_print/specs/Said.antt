@@ -14,14 +14,14 @@ use Rattle.sql_grammar.specs.declared.ast.Operand.{Operand}
 use Rattle.sql_grammar.specs.declared.ast.Operand.TheVariants as operand
 use Rattle.sp_value.specs.declared.truth.Op.{Op}
 use Rattle.sp_value.specs.declared.truth.Op.TheVariants as op
-use Rattle.sql_grammar.specs.declared.ast.Asked.{Asked}
-use Rattle.sql_grammar.specs.declared.ast.Asked.TheVariants as asked
+use Rattle.sql_grammar.specs.declared.ast.Predicate.{Predicate}
+use Rattle.sql_grammar.specs.declared.ast.Predicate.TheVariants as predicate
 use Rattle.sql_grammar.specs.declared.ast.Expr.{Expr, fold-Expr}
 use Rattle.sql_grammar.specs.declared.ast.Expr.TheOpen.{Expr-F}
 use Rattle.sql_grammar.specs.declared.ast.Item.{Item}
 use Rattle.sql_grammar.specs.declared.ast.Shown.{Shown}
 use Rattle.sql_grammar.specs.declared.ast.Shown.TheVariants as shown
-use Rattle.sql_grammar.specs.declared.ast.Source.{Source}
+use Rattle.sql_grammar.specs.declared.ast.TableRef.{TableRef}
 use Rattle.sql_grammar.specs.declared.ast.Join.{Join}
 use Rattle.sql_grammar.specs.declared.ast.Key.{Key}
 use Rattle.sql_grammar.specs.declared.ast.Statement.{Statement}
@@ -89,14 +89,14 @@ negation false = []
 abbrev pub said_literals : List Literal → List Bare
 said_literals ls = between k.Comma (map said_literal ls)
 
-abbrev pub said_asked : Asked → List Bare
-said_asked asked.Truth = []
-said_asked (asked.Compares op with) = fixed (op_kind op) ++ said_operand with
-said_asked (asked.IsIn negated list) = negation negated ++ (fixed k.In ++ (fixed k.Open ++ (said_literals list ++ fixed k.Close)))
-said_asked (asked.IsNull negated) = fixed k.Is ++ (negation negated ++ fixed k.Null)
+abbrev pub said_predicate : Predicate → List Bare
+said_predicate predicate.Truth = []
+said_predicate (predicate.Compares op with) = fixed (op_kind op) ++ said_operand with
+said_predicate (predicate.IsIn negated list) = negation negated ++ (fixed k.In ++ (fixed k.Open ++ (said_literals list ++ fixed k.Close)))
+said_predicate (predicate.IsNull negated) = fixed k.Is ++ (negation negated ++ fixed k.Null)
 
-abbrev pub said_test : Operand → Asked → List Bare
-said_test of asked = said_operand of ++ said_asked asked
+abbrev pub said_test : Operand → Predicate → List Bare
+said_test of predicate = said_operand of ++ said_predicate predicate
 
 -- ---- conditions
 
@@ -116,7 +116,7 @@ abbrev pub said_layer : Expr-F Said → Said
 said_layer (Expr-F.Or xs) = let ts = between k.Or (map (λ x. x.in_or) xs) in record { alone = ts; in_or = inside ts; in_and = inside ts }
 said_layer (Expr-F.And xs) = let ts = between k.And (map (λ x. x.in_and) xs) in record { alone = ts; in_or = ts; in_and = inside ts }
 said_layer (Expr-F.Not x) = everywhere (fixed k.Not ++ x.in_and)
-said_layer (Expr-F.Test of asked) = everywhere (said_test of asked)
+said_layer (Expr-F.Test of predicate) = everywhere (said_test of predicate)
 
 unfoldable pub said : Expr → Said
 said = fold-Expr Said said_layer
@@ -140,7 +140,7 @@ abbrev pub said_shown : Shown → List Bare
 said_shown shown.All = fixed k.Star
 said_shown (shown.Items is) = said_items is
 
-abbrev pub said_source : Source → List Bare
+abbrev pub said_source : TableRef → List Bare
 said_source s = said_name s.connection ++ (fixed k.Dot ++ (said_name s.table ++ said_alias s.alias))
 
 abbrev pub said_join : Join → List Bare

@@ -10,7 +10,7 @@ ghost use Rattle.sql_print.specs.Page.{state};
 use crate::page::Page;
 use crate::parts::{literal, op_kind, operand};
 use sp_value::Memory;
-use sql_grammar::{Asked, Expr, Literal, Operand};
+use sql_grammar::{Expr, Literal, Operand, Predicate};
 use sql_lex::Kind;
 
 // The literals with a comma between two.
@@ -49,17 +49,17 @@ fn is_in(page: &mut Page, negated: bool, list: &[Literal]) -> Result<(), Memory>
 }
 
 #[tactic(auto, using(crate::proofs::Writing::writes_append))]
-fn asked(page: &mut Page, asked: &Asked) -> Result<(), Memory>
-    ensures { OnOk result (state page.new ≡ writes (state page.old) (say.said_asked asked.now)) }
+fn predicate(page: &mut Page, predicate: &Predicate) -> Result<(), Memory>
+    ensures { OnOk result (state page.new ≡ writes (state page.old) (say.said_predicate predicate.now)) }
 {
-    match asked {
-        Asked::Truth => Ok(()),
-        Asked::Compares { op, with } => {
+    match predicate {
+        Predicate::Truth => Ok(()),
+        Predicate::Compares { op, with } => {
             page.word(op_kind(*op))?;
             operand(page, with)
         }
-        Asked::IsIn { negated, list } => is_in(page, *negated, list.as_slice()),
-        Asked::IsNull { negated } => {
+        Predicate::IsIn { negated, list } => is_in(page, *negated, list.as_slice()),
+        Predicate::IsNull { negated } => {
             page.word(Kind::Is)?;
             negation(page, *negated)?;
             page.word(Kind::Null)
@@ -68,11 +68,11 @@ fn asked(page: &mut Page, asked: &Asked) -> Result<(), Memory>
 }
 
 #[tactic(auto, using(crate::proofs::Writing::writes_append))]
-fn test(page: &mut Page, of: &Operand, question: &Asked) -> Result<(), Memory>
+fn test(page: &mut Page, of: &Operand, question: &Predicate) -> Result<(), Memory>
     ensures { OnOk result (state page.new ≡ writes (state page.old) (say.said_test of.now question.now)) }
 {
     operand(page, of)?;
-    asked(page, question)
+    predicate(page, question)
 }
 
 /// A condition that stands alone.
@@ -88,7 +88,7 @@ pub fn alone(page: &mut Page, e: &Expr) -> Result<(), Memory>
             page.word(Kind::Not)?;
             in_and(page, inner.get())
         }
-        Expr::Test { of, asked } => test(page, of, asked),
+        Expr::Test { of, predicate } => test(page, of, predicate),
     }
 }
 

@@ -12,7 +12,7 @@ use crate::condition::alone;
 use crate::page::Page;
 use crate::parts::{alias, column, name};
 use sp_value::{Memory, Text};
-use sql_grammar::{Expr, Item, Join, Key, Shown, Source, Statement};
+use sql_grammar::{Expr, Item, Join, Key, Shown, Statement, TableRef};
 use sql_lex::Kind;
 use std::alloc::Global;
 
@@ -47,7 +47,7 @@ fn shown(page: &mut Page, shown: &Shown) -> Result<(), Memory>
 }
 
 #[tactic(auto, using(crate::proofs::Writing::writes_append))]
-fn source(page: &mut Page, source: &Source) -> Result<(), Memory>
+fn source(page: &mut Page, source: &TableRef) -> Result<(), Memory>
     ensures { OnOk result (state page.new ≡ writes (state page.old) (say.said_source source.now)) }
 {
     name(page, &source.connection)?;

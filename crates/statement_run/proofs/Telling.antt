@@ -16,7 +16,7 @@ use Rattle.sql_bind.proofs.Agreeing.{binds_by_its_connections}
 use Rattle.sql_bind.proofs.Declared.{split}
 use Rattle.sql_bind.specs.Answer.{bound, plain_connections}
 use Rattle.sql_bind.specs.Known.{Known, declaration_of}
-use Rattle.statement_run.specs.Answers.{accepted, declarations, AreDeclared, IsNext, IsRefusal, IsFirstRefusal, IsAskedNext, groups_of}
+use Rattle.statement_run.specs.Answers.{sound_declaration, declarations, AreDeclared, IsNext, IsRefusal, IsFirstRefusal, IsAskedNext, groups_of}
 use Rattle.statement_run.specs.declared.answer.BlockFault.TheVariants as fault
 use Rattle.statement_run.proofs.Agreements.{some_is}
 use Rattle.statement_run.proofs.Eaches.{itself}
@@ -29,7 +29,7 @@ same_some : (a b : Declaration) → Some a ≡ Some b → a ≡ b
 same_some a b e = cc
 
 follows : (book : Book) (known : Known) → IsTold book known → Follow (declaration_of known) (declarations book)
-follows book known told name d is = ap accepted (told name d is)
+follows book known told name d is = ap sound_declaration (told name d is)
 
 -- ---- agreement
 

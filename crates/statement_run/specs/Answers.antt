@@ -47,13 +47,13 @@ answer_ticks answer = answer.began ∷ ticks_of answer.notes
 
 -- ---- declarations
 
-abbrev pub accepted : Result Declaration DeclFault → Option Declaration
-accepted (Ok d) = Some d
-accepted (Err f) = None
+abbrev pub sound_declaration : Result Declaration DeclFault → Option Declaration
+sound_declaration (Ok d) = Some d
+sound_declaration (Err f) = None
 
 -- what the book's connections declare, where that isn't refused
 abbrev pub declarations : Book → List ℕ → Option Declaration
-declarations book connection = accepted (book_declaration book connection)
+declarations book connection = sound_declaration (book_declaration book connection)
 
 -- the connections that one name of the statement stands for have to declare the same
 abbrev pub groups_of : Settings → Statement → List (List (List ℕ))

@@ -7,7 +7,7 @@ use case_tables::str_at;
 use column_tests::{Operand, Question, Test};
 use row_algebra::{OrderKey, keep, limit_rows, order_rows, project};
 use sp_value::{Cell, Cells, TryCopy};
-use sql_parser::{Asked, Constant, Expr, Literal, Operand as Named};
+use sql_parser::{Constant, Expr, Literal, Operand as Named, Predicate};
 use sqlite_items::{Boxed, Items};
 use std::alloc::Global;
 
@@ -53,18 +53,18 @@ fn values(alloc: Global, literals: &[Literal]) -> Option<Cells> {
     Some(values)
 }
 
-fn question(alloc: Global, asked: &Asked) -> Option<Question<u32>> {
-    match asked {
-        Asked::Truth => Some(Question::Truth),
-        Asked::Compares { op, with } => Some(Question::Compares {
+fn question(alloc: Global, predicate: &Predicate) -> Option<Question<u32>> {
+    match predicate {
+        Predicate::Truth => Some(Question::Truth),
+        Predicate::Compares { op, with } => Some(Question::Compares {
             op: *op,
             with: operand(alloc, with)?,
         }),
-        Asked::IsIn { negated, list } => Some(Question::IsIn {
+        Predicate::IsIn { negated, list } => Some(Question::IsIn {
             negated: *negated,
             list: values(alloc, list.as_slice())?,
         }),
-        Asked::IsNull { negated } => Some(Question::IsNull { negated: *negated }),
+        Predicate::IsNull { negated } => Some(Question::IsNull { negated: *negated }),
     }
 }
 
@@ -74,9 +74,9 @@ fn test(alloc: Global, condition: &Expr) -> Option<Test<u32>> {
         Expr::Or(members) => Some(Test::Or(tests(alloc, members.as_slice())?)),
         Expr::And(members) => Some(Test::And(tests(alloc, members.as_slice())?)),
         Expr::Not(inner) => Some(Test::Not(Boxed::new(alloc, test(alloc, inner.get())?).ok()?)),
-        Expr::Test { of, asked } => Some(Test::Asks {
+        Expr::Test { of, predicate } => Some(Test::Asks {
             of: operand(alloc, of)?,
-            question: question(alloc, asked)?,
+            question: question(alloc, predicate)?,
         }),
     }
 }
