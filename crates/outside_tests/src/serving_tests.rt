@@ -2,7 +2,7 @@
 
 use crate::world::Scripted;
 use plugin_kit::{Served, serve};
-use sp_outside::{Failed, MemorySink, MemorySource, Source};
+use sp_outside::{ByteSource, Failed, MemorySink, MemorySource};
 use sqlite_items::Items;
 use std::alloc::Global;
 use std::test::Fail;
@@ -14,7 +14,7 @@ struct CutSource {
     cut: usize,
 }
 
-impl Source for CutSource {
+impl ByteSource for CutSource {
     ghost use Rattle.std.specs.Prelude.{Some};
 
     ghost left = { λ s. Some s.inner.left };

@@ -1,8 +1,8 @@
 // Sources, sinks and clocks.
 
 use sp_outside::{
-    Clock, ClockPass, MemoryClock, MemorySink, MemorySource, ReadEnd, Sink, Source, read_to_limit,
-    write_all,
+    ByteSource, Clock, ClockPass, MemoryClock, MemorySink, MemorySource, ReadEnd, Sink,
+    read_to_limit, write_all,
 };
 use sqlite_items::Items;
 use std::test::Fail;

@@ -11,7 +11,7 @@ use crate::routes::Routes;
 use crate::served::Served;
 use crate::stop::{Stop, Unread, served};
 use byte_lines::PendingBytes;
-use sp_outside::{Sink, Source};
+use sp_outside::{ByteSource, Sink};
 use std::alloc::Global;
 
 /// The most bytes of an input.
@@ -52,7 +52,7 @@ fn answer_waiting<R: Routes, O: Sink>(
 }
 
 /// Reads one piece more, of at most `room` bytes; nothing at the end.
-fn read_more<I: Source>(
+fn read_more<I: ByteSource>(
     source: &mut I,
     waiting: &mut PendingBytes,
     room: u64,
@@ -98,7 +98,7 @@ fn answer_last<R: Routes, O: Sink>(alloc: Global, sink: &mut O, routes: &R, line
 ///
 /// A line goes to its line feed or to the end of the source; nothing after the last line feed is no line. It ends at the end of the source,
 /// or at the first line that is no request. It always returns: `Served` has the causes.
-pub fn serve<R: Routes, I: Source, O: Sink>(
+pub fn serve<R: Routes, I: ByteSource, O: Sink>(
     alloc: Global,
     source: &mut I,
     sink: &mut O,

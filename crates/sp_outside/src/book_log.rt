@@ -15,6 +15,9 @@ use sqlite_items::Items;
 use std::alloc::Global;
 use std::marker::{Model, PhantomData};
 
+/// How many bytes a line may have.
+const LIMIT: usize = 1_048_576;
+
 /// An open call and the book's reply to it. What isn't answered by a reply has an empty one.
 #[derive(Drop)]
 pub(crate) struct Answering {
@@ -120,7 +123,7 @@ impl<W: World> BookLog<W> {
         let Ok(line) = say::<W>(alloc, &self.calls[place]) else {
             return Err(Unsaid::Memory);
         };
-        if line.len() > 1_048_576 {
+        if line.len() > LIMIT {
             return Err(Unsaid::TooLong);
         }
         let Ok(given) = Items::from_slice(alloc, &line) else {

@@ -1,6 +1,6 @@
 //! The outside as traits: where bytes are read and written, files, a clock, children that answer calls; and each of them in memory.
 //!
-//! `Source`, `Sink`, `Shelf`, `Clock`, `Child` and `Nursery` answer a fault only where their count of faults rose, or stands at its end
+//! `ByteSource`, `Sink`, `Shelf`, `Clock`, `Child` and `Nursery` answer a fault only where their count of faults rose, or stands at its end
 //! (`specs/Causes.antt`). A child that tells has a log of the lines heard and given, from which its open calls follow (`specs/Log.antt`).
 //! `MemorySource`, `MemorySink`, `MemoryShelf`, `MemoryClock`, `BookChild` and `BookNursery` are the same in memory. Begin reading at
 //! `sink.rt`, the smallest of them.
@@ -37,4 +37,4 @@ pub use memory_source::MemorySource;
 pub use nursery::Nursery;
 pub use shelf::{Shelf, ShelfEnd};
 pub use sink::{Sink, write_all};
-pub use source::{ReadEnd, Source, read_to_limit};
+pub use source::{ByteSource, ReadEnd, read_to_limit};

@@ -10,6 +10,9 @@ use sqlite_items::Items;
 use std::alloc::Global;
 use std::marker::Model;
 
+/// How many bytes a file may have.
+const LIMIT: usize = 1_048_576;
+
 /// Files in memory, by name; the first of a name counts. The reads of the listed numbers, from 0, fail.
 #[derive(Drop)]
 pub struct MemoryShelf {
@@ -69,7 +72,7 @@ impl Shelf for MemoryShelf {
         let Some(bytes) = find(self.files.as_slice(), name.as_str()) else {
             return Err(ShelfEnd::Absent);
         };
-        if bytes.len() > 1_048_576 {
+        if bytes.len() > LIMIT {
             return Err(ShelfEnd::TooLong);
         }
         match Vec::from_slice(alloc, bytes.as_slice()) {

@@ -4,7 +4,7 @@ ghost use Rattle.std.specs.Io.KnownBytes.{ReadConsumes};
 ghost use Rattle.sp_outside.specs.Causes.{HasCause, up};
 
 use crate::failing::{Failed, fails_now};
-use crate::source::Source;
+use crate::source::ByteSource;
 use sqlite_items::Items;
 use std::marker::Model;
 
@@ -51,7 +51,7 @@ impl MemorySource {
     }
 }
 
-impl Source for MemorySource {
+impl ByteSource for MemorySource {
     ghost use Rattle.std.specs.Prelude.{Some};
 
     ghost left = { λ s. Some s.left };

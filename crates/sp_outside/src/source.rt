@@ -8,7 +8,7 @@ use crate::failing::Failed;
 use std::alloc::Global;
 
 /// Where bytes are read from.
-pub trait Source {
+pub trait ByteSource {
     ghost use Rattle.std.specs.Prelude.{ℕ, List};
     ghost use Rattle.std.specs.declared.option.Option.{Option};
 
@@ -38,7 +38,7 @@ pub enum ReadEnd {
 }
 
 /// Reads all that is left, which may be at most `limit` bytes.
-pub fn read_to_limit<S: Source>(
+pub fn read_to_limit<S: ByteSource>(
     alloc: Global,
     source: &mut S,
     limit: usize,

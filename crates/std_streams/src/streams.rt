@@ -3,7 +3,7 @@ ghost use Rattle.std.specs.Io.{ReadsAtMost, WritesAtMost};
 ghost use Rattle.std.specs.Io.KnownBytes.{ReadConsumes, WriteAppends};
 ghost use Rattle.sp_outside.specs.Writing.{WritesSome};
 
-use sp_outside::{Failed, Sink, Source};
+use sp_outside::{ByteSource, Failed, Sink};
 use std::io::{ErrorKind, Read, Write};
 
 /// A reader as a source. It tells what the reader tells, and counts its errors.
@@ -36,7 +36,7 @@ fn read_some<R: Read>(reader: &mut R, into: &mut [u8]) -> Result<usize, Failed>
     Err(Failed)
 }
 
-impl<R: Read + Drop> Source for ReaderSource<R> {
+impl<R: Read + Drop> ByteSource for ReaderSource<R> {
     ghost left = { λ s. R.remaining s.reader };
 
     ghost faulted = { λ s. s.faults };

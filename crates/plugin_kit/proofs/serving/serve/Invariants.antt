@@ -7,10 +7,10 @@ use Rattle.plugin_kit.proofs.serving.serve.Given as goal
 
 abbrev pub invariant-loop-taken : goal.invariant-loop-taken
 invariant-loop-taken g l = record {
-  serving : IsServing (g.R.Routes.book l.routes) (g.I.Source.left l.initial.source) (g.I.Source.left l.source) (g.O.Sink.held l.initial.sink) (g.O.Sink.held l.sink) l.waiting l.taken;
+  serving : IsServing (g.R.Routes.book l.routes) (g.I.ByteSource.left l.initial.source) (g.I.ByteSource.left l.source) (g.O.Sink.held l.initial.sink) (g.O.Sink.held l.sink) l.waiting l.taken;
   none : l.searched ≤ position_or_len is_feed l.waiting;
   within : l.taken ≤ 2 ^ 62;
-  reads : g.I.Source.faulted l.initial.source ≤ g.I.Source.faulted l.source;
+  reads : g.I.ByteSource.faulted l.initial.source ≤ g.I.ByteSource.faulted l.source;
   writes : g.O.Sink.faulted l.initial.sink ≤ g.O.Sink.faulted l.sink;
 }
 

@@ -5,8 +5,8 @@ use Rattle.sp_outside.proofs.source.read_to_limit.Given as goal
 -- what was read so far was consumed
 abbrev pub invariant-loop-chunk : goal.invariant-loop-chunk
 invariant-loop-chunk g l = record {
-  consumed : Consumes (g.S.Source.left l.initial.source) (g.S.Source.left l.source) l.bytes.items;
-  later : g.S.Source.faulted l.initial.source ≤ g.S.Source.faulted l.source;
+  consumed : Consumes (g.S.ByteSource.left l.initial.source) (g.S.ByteSource.left l.source) l.bytes.items;
+  later : g.S.ByteSource.faulted l.initial.source ≤ g.S.ByteSource.faulted l.source;
 }
 
 abbrev pub decreases-loop-chunk : goal.decreases-loop-chunk

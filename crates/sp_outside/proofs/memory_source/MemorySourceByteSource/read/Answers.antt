@@ -1,6 +1,6 @@
 use Rattle.std.proofs.Common.{◌≡◌, ◌∙◌, length, min, take, drop, ap, sym}
 use Rattle.sp_outside.proofs.Bytes.{read_left, read_none}
-use Rattle.sp_outside.proofs.memory_source.MemorySourceSource.read.Goals as goal
+use Rattle.sp_outside.proofs.memory_source.MemorySourceByteSource.read.Goals as goal
 
 pub returns-clause-bytes : goal.returns-clause-bytes
 returns-clause-bytes c =
