@@ -6,6 +6,9 @@ ghost use Rattle.load_gen.specs.Asked.{natural, id_of, is_equality, size_in, siz
 use sp_model::Condition;
 use sp_value::{Cell, Op};
 
+/// The most rows that a list gives.
+const MOST_ROWS: u64 = 100_000;
+
 /// An integer that isn't negative.
 fn natural(cell: &Cell) -> Option<u64>
     ensures { result ≡ natural cell.now }
@@ -38,7 +41,7 @@ fn size_in(condition: &Condition) -> Option<u64>
     if condition.column.as_str() != "size" || !is_equality(condition.operator) {
         return None;
     }
-    natural(&condition.value).filter(|size| (1..=100_000).contains(size))
+    natural(&condition.value).filter(|size| (1..=MOST_ROWS).contains(size))
 }
 
 /// The size that a list is asked for by its one condition, from 1 to 100,000.

@@ -8,6 +8,9 @@ use sp_world::Untold;
 use sqlite_items::Items;
 use std::alloc::Global;
 
+/// How many bytes a line may have.
+const LINE_LIMIT: usize = 1_048_576;
+
 /// A line that a child heard, and the tick at which it did.
 #[derive(Drop)]
 pub(crate) struct Heard {
@@ -174,7 +177,7 @@ impl Child<Untold> for RunChild<'_> {
         if self.runs && !fails {
             if let Some(case) = self.case {
                 if let Some(line) = next_line(case, &self.open, self.given) {
-                    if line.len() <= 1_048_576 {
+                    if line.len() <= LINE_LIMIT {
                         let (Ok(given), Ok(last)) = (copy(alloc, line), copy(alloc, line)) else {
                             return Err(ChildEnd::Memory);
                         };
