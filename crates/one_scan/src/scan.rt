@@ -229,7 +229,22 @@ impl<W: World> Scan<W> {
         &self.course.walk.rows
     }
 
-    /// The scan as it is kept. Want of memory would hand it back.
+    /// The rows of a scan that ended in rows, taken out.
+    pub fn into_rows(self) -> Rows
+        requires { AreRows self.end }
+        ensures { self.end ≡ Some (value.Rows result) }
+    {
+        let Scan {
+            scope: _,
+            course,
+            version: _,
+            asked: _,
+            wanting: _,
+        } = self;
+        course.walk.rows
+    }
+
+    /// The scan as it is kept. It takes no memory.
     pub fn into_kept(self) -> Result<Kept<W>, Scan<W>>
         requires rows { AreRows self.end }
         requires steady { self.steady ≡ true }

@@ -1,6 +1,7 @@
 // The end of a scan, once it is decided.
 
 ghost use Rattle.std.specs.Prelude.{◌≡◌, true, Some, IsTrue, IfOk, IfErr};
+ghost use Rattle.std.specs.Arc.{arc_value};
 ghost use Rattle.sp_model.specs.declared.outcome.ScanValue.TheVariants as value;
 ghost use Rattle.one_scan.specs.Views.{IsOfScan, AreRows};
 ghost use Rattle.statement_words.specs.Ended.{IsFailedEnd};
@@ -39,25 +40,41 @@ pub(crate) fn is_done<W: World>(alloc: Global, scan: &Scan<W>, number: u64) -> R
     }
 }
 
-/// Keeps a finished scan.
+/// The rows of a scan that was given to a desk: its own where nobody else has it, else equal ones.
+fn rows_of<W: World>(alloc: Global, kept: Arc<Kept<W>>) -> Result<Rows, Memory>
+    ensures { IfOk result (λ rows. rows ≡ (arc_value kept).rows) }
+{
+    match Arc::try_unwrap(kept) {
+        Ok(kept) => Ok(kept.into_scan().rows),
+        Err(shared) => shared.rows().copy(alloc),
+    }
+}
+
+/// Keeps a finished scan, and gives its rows.
 #[tactic(auto, using(statement_words::proofs::Stops::later_still, statement_words::proofs::Stops::later_refl))]
-fn keep<W: World, D: Desk<W>>(alloc: Global, desk: &mut D, kept: Kept<W>) -> Result<(), Memory>
+fn keep<W: World, D: Desk<W>>(alloc: Global, desk: &mut D, kept: Kept<W>) -> Result<Rows, Memory>
+    ensures rows { IfOk result (λ rows. rows ≡ kept.rows) }
     ensures state { IsLater (D.state desk.old) (D.state desk.new) }
 {
     let Ok(kept) = Arc::new(alloc, kept) else {
         return Err(Memory);
     };
     match desk.keep_scan(&kept) {
-        Ok(()) => Ok(()),
+        Ok(()) => rows_of::<W>(alloc, kept),
         Err(_) => Err(Memory),
     }
 }
 
-/// Keeps a steady scan that ended in rows.
+/// Keeps a steady scan that ended in rows, and gives these.
 #[tactic(auto, using(statement_words::proofs::Stops::later_refl))]
-fn hand_over<W: World, D: Desk<W>>(alloc: Global, desk: &mut D, scan: Scan<W>) -> Result<(), Memory>
+fn hand_over<W: World, D: Desk<W>>(
+    alloc: Global,
+    desk: &mut D,
+    scan: Scan<W>,
+) -> Result<Rows, Memory>
     requires rows { AreRows scan.end }
     requires steady { scan.steady ≡ true }
+    ensures rows { IfOk result (λ rows. scan.end ≡ Some (value.Rows rows)) }
     ensures state { IsLater (D.state desk.old) (D.state desk.new) }
 {
     match scan.into_kept() {
@@ -66,32 +83,8 @@ fn hand_over<W: World, D: Desk<W>>(alloc: Global, desk: &mut D, scan: Scan<W>) -
     }
 }
 
-/// Keeps a scan that ended in rows, where it was steady.
-#[tactic(auto, using(statement_words::proofs::Stops::later_refl))]
-fn keep_steady<W: World, D: Desk<W>>(
-    alloc: Global,
-    desk: &mut D,
-    scan: Scan<W>,
-) -> Result<(), Memory>
-    requires rows { AreRows scan.end }
-    ensures state { IsLater (D.state desk.old) (D.state desk.new) }
-{
-    if scan.steady() {
-        hand_over::<W, D>(alloc, desk, scan)
-    } else {
-        Ok(())
-    }
-}
-
-/// The rows of a scan that ended in rows.
-fn rows_of<W: World>(alloc: Global, scan: &Scan<W>) -> Result<Rows, Memory>
-    requires { AreRows scan.now.end }
-    ensures { IfOk result (λ rows. scan.now.end ≡ Some (value.Rows rows)) }
-{
-    scan.rows().copy(alloc)
-}
-
 /// The rows of a scan that ended in rows. Where it was steady it is kept.
+#[tactic(auto, using(statement_words::proofs::Stops::later_refl))]
 pub(crate) fn finish<W: World, D: Desk<W>>(
     alloc: Global,
     desk: &mut D,
@@ -101,9 +94,9 @@ pub(crate) fn finish<W: World, D: Desk<W>>(
     ensures rows { IfOk result (λ rows. scan.end ≡ Some (value.Rows rows)) }
     ensures state { IsLater (D.state desk.old) (D.state desk.new) }
 {
-    let rows = rows_of::<W>(alloc, &scan);
-    match keep_steady::<W, D>(alloc, desk, scan) {
-        Ok(()) => rows,
-        Err(_) => Err(Memory),
+    if scan.steady() {
+        hand_over::<W, D>(alloc, desk, scan)
+    } else {
+        Ok(scan.into_rows())
     }
 }

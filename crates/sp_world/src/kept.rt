@@ -62,6 +62,16 @@ impl<W: World> Kept<W> {
         &self.scan.rows
     }
 
+    /// What is kept, taken out.
+    pub fn into_scan(self) -> KeptScan
+        ensures value { result ≡ self }
+        ensures form { IsKeptForm self }
+        ensures told { IsTrue W.tells → IsKeptValue W.book self }
+    {
+        let Kept { scan, of: _ } = self;
+        scan
+    }
+
     /// Whether the scan came to the ending of its calls.
     pub fn complete(&self) -> bool
         ensures { result ≡ self.now.complete }
