@@ -1,5 +1,6 @@
 pub mod Finding
 pub mod Given
+pub mod Hearing
 pub mod Holding
 pub mod Looks
 pub mod Sending

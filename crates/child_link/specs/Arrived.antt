@@ -1,5 +1,5 @@
 -- What came in, and how a try to receive ends.
-use Rattle.std.specs.Prelude.{◌≡◌, ℕ, ◌+◌, ◌≤◌, Bool, true, false, List, [], ◌∷◌, ◌++◌, Option, Some, None, Result, Ok, Err, slice_get, slice_set, remove, if◌then◌else◌}
+use Rattle.std.specs.Prelude.{◌≡◌, ℕ, ◌+◌, ◌≤◌, Bool, true, false, List, [], ◌∷◌, ◌++◌, ◌⊎◌, Option, Some, None, Result, Ok, Err, slice_get, slice_set, remove, if◌then◌else◌}
 use Rattle.call_jobs.specs.Jobs.{asked_by}
 use Rattle.sp_world.specs.Fits.{told_by, is_last}
 use Rattle.sp_world.specs.ReplyLines.{ReplyLine, line_of}
@@ -75,3 +75,7 @@ is_memory _ = false
 abbrev pub GrewBy : Option (List ℕ) → List Event → List Event → Type 0
 GrewBy None old new = new ≡ old
 GrewBy (Some line) old new = new ≡ old ++ Given line ∷ []
+
+-- the log is as it was, or grew by one line that was given
+abbrev pub GrewByGiven : List Event → List Event → Type 0
+GrewByGiven old new = (new ≡ old) ⊎ ((line : List ℕ) × (new ≡ old ++ Given line ∷ []))

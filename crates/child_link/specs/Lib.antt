@@ -1,6 +1,7 @@
 pub mod Arrivals
 pub mod Arrived
 pub mod Bag
+pub mod Heard
 pub mod Holds
 pub mod Ledger
 pub mod Looked

@@ -15,6 +15,9 @@ use sp_world::{Line, Told, ToldLine, World};
 use std::alloc::Global;
 use std::sync::Arc;
 
+/// The most items that a reply has.
+const MOST_ITEMS: u64 = 999_999;
+
 /// The number that a line names.
 pub(crate) fn number_of(line: &Line) -> u64
     ensures { result ≡ number_of (seen line.now) }
@@ -34,7 +37,7 @@ pub(crate) fn fits(asked: &Asked, place: u64, line: &Line) -> bool
 {
     match asked {
         Asked::Call(_) => match line {
-            Line::Item { id: _, item: _ } => place < 999_999,
+            Line::Item { id: _, item: _ } => place < MOST_ITEMS,
             Line::End { id: _ } => true,
             Line::Error { id: _, text: _ } => true,
             _ => false,
@@ -61,7 +64,7 @@ fn piece_of(_key: &CallKey, place: u64, line: Line) -> Piece
     ensures sound { IsSoundPiece result }
 {
     match line {
-        Line::Item { id: _, item } if place < 999_999 => Piece::Item { place, item },
+        Line::Item { id: _, item } if place < MOST_ITEMS => Piece::Item { place, item },
         Line::End { id: _ } => Piece::Ending {
             count: place,
             ending: Ending::End,

@@ -6,7 +6,7 @@ ghost use Rattle.sp_outside.specs.Causes.{Rose};
 ghost use Rattle.sp_outside.specs.declared.log.Event.TheVariants as event;
 ghost use Rattle.sp_outside.specs.declared.log.Loss.TheVariants as loss;
 ghost use Rattle.child_link.specs.Open.{calls_of, jobs_of, looked_at};
-ghost use Rattle.child_link.specs.Arrived.{IsArrival, still_up, is_memory, IsCounted, IsMisfit, IsFitting, HasLooked};
+ghost use Rattle.child_link.specs.Arrived.{IsArrival, still_up, is_memory, IsCounted, IsMisfit, IsFitting, HasLooked, GrewByGiven};
 ghost use Rattle.child_link.specs.Ledger.{Moves};
 ghost use Rattle.child_link.specs.Sent.{flight_of, IsHeardIf};
 
@@ -110,6 +110,7 @@ impl<W: World, C: Child<W>> Link<W, C> {
         ensures err { OnErr result (self.new.flights.items ≡ self.old.flights.items) }
         ensures prepared { self.new.prepared ≡ self.old.prepared }
         ensures kept { is_memory result ≡ false → self.new.kept ≡ None }
+        ensures log { IsTrue W.tells → GrewByGiven (C.log self.old.child) (C.log self.new.child) }
         ensures own { (C.connection self.new.child ≡ C.connection self.old.child) × (C.sends self.new.child ≡ C.sends self.old.child) }
         ensures ledger { IsTrue W.tells → self.old.kept ≡ None → is_memory result ≡ false → Moves (C.log self.old.child) (calls_of self.old.flights.items) (C.log self.new.child) (calls_of self.new.flights.items) [] [] }
     {

@@ -8,7 +8,7 @@ ghost use Rattle.child_link.specs.Open.{calls_of, next_in, ahead, looked_at};
 ghost use Rattle.child_link.specs.Holds.{Holds, all_within};
 ghost use Rattle.child_link.specs.Looked.{IsFit};
 ghost use Rattle.child_link.specs.Ledger.{Moves};
-ghost use Rattle.child_link.specs.Arrived.{IsArrival, is_item, still_up, is_memory, IsCounted, IsMisfit, IsFitting, HasLooked, GrewBy};
+ghost use Rattle.child_link.specs.Arrived.{IsArrival, is_item, still_up, is_memory, IsCounted, IsMisfit, IsFitting, HasLooked, GrewBy, GrewByGiven};
 
 use crate::arrival::{Arrived, RecvEnd};
 use crate::fitting::tell;
@@ -88,6 +88,7 @@ fn fill<W: World, C: Child<W>>(alloc: Global, parts: &mut Parts<C>) -> Result<()
     ensures fitting { IsFitting result }
     ensures grew { IsTrue W.tells → parts.old.kept ≡ None → GrewBy parts.new.kept (C.log parts.old.child) (C.log parts.new.child) }
     ensures err { OnErr result (parts.new.kept ≡ None) }
+    ensures log { IsTrue W.tells → GrewByGiven (C.log parts.old.child) (C.log parts.new.child) }
     ensures own { (C.connection parts.new.child ≡ C.connection parts.old.child) × (C.sends parts.new.child ≡ C.sends parts.old.child) }
 {
     if parts.kept.is_some() {
@@ -165,6 +166,7 @@ pub(crate) fn receive_line<W: World, C: Child<W>>(
     ensures room { (vec_len parts.new.flights ≤ vec_len parts.old.flights) × (vec_capacity parts.new.flights ≡ vec_capacity parts.old.flights) }
     ensures prepared { parts.new.prepared ≡ parts.old.prepared }
     ensures kept { is_memory result ≡ false → parts.new.kept ≡ None }
+    ensures log { IsTrue W.tells → GrewByGiven (C.log parts.old.child) (C.log parts.new.child) }
     ensures own { (C.connection parts.new.child ≡ C.connection parts.old.child) × (C.sends parts.new.child ≡ C.sends parts.old.child) }
     ensures ledger { IsTrue W.tells → parts.old.kept ≡ None → is_memory result ≡ false → Moves (C.log parts.old.child) (calls_of parts.old.flights.items) (C.log parts.new.child) (calls_of parts.new.flights.items) [] [] }
 {

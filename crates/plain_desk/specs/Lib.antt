@@ -1,3 +1,4 @@
 pub mod Grants
+pub mod Hearing
 pub mod Lost
 pub mod Slots

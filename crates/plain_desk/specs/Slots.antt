@@ -58,6 +58,10 @@ pub record IsSlot {X Kid : Type 0} (lost : Kid → Type 0) (s : SlotParts X Kid)
 
 -- ---- all slots
 
+-- the names of the plain connections, in their order
+abbrev pub plain_names : List Connection → List (List ℕ)
+plain_names connections = map (λ c. c.name) (filter (λ c. not c.aggregator) connections)
+
 -- their children are those of the plain connections, in their order
 abbrev pub AreBeside : {X Kid : Type 0} → (Kid → List ℕ) → List (SlotParts X Kid) → List Connection → Type 0
-AreBeside own slots connections = map (λ s. own s.link.child) slots ≡ map (λ c. c.name) (filter (λ c. not c.aggregator) connections)
+AreBeside own slots connections = map (λ s. own s.link.child) slots ≡ plain_names connections

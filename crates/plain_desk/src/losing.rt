@@ -1,6 +1,7 @@
 ghost use Rattle.std.specs.Prelude.{◌≡◌, ◌≤◌, ◌^◌, [], true, Some, IfSome};
 ghost use Rattle.rate_gate.specs.Journal.{IsOpen, last_tick};
 ghost use Rattle.plain_desk.specs.Grants.{AreHeld};
+ghost use Rattle.plain_desk.specs.Hearing.{IsLawfulSlot};
 ghost use Rattle.plain_desk.specs.Lost.{HasLost};
 ghost use Rattle.plain_desk.specs.Slots.{IsSlot, Keeps, is_gone, returned};
 
@@ -63,7 +64,9 @@ pub(crate) fn end_flights(gate: &mut Gate, flights: Vec<Flight>, tick: u64)
 pub(crate) fn lose<W: World, C: Child<W>>(alloc: Global, parts: &mut SlotParts<W, C>)
     requires keeps { Keeps parts.old.link.flights.items parts.old.gate.journal parts.old.tick }
     requires lost { HasLost W.tells W.book C.faulted C.gives parts.old.link.child }
+    requires lawful { IsLawfulSlot W.tells W.book C.connection C.log parts.old }
     ensures slot { IsSlot (HasLost W.tells W.book C.faulted C.gives) parts.new }
+    ensures lawful { IsLawfulSlot W.tells W.book C.connection C.log parts.new }
     ensures gone { is_gone parts.new.stage ≡ true }
     ensures own { C.connection parts.new.link.child ≡ C.connection parts.old.link.child }
 {

@@ -1,10 +1,11 @@
-ghost use Rattle.std.specs.Prelude.{◌≡◌, ◌<◌, [], length, map, OnOk, vec_len, vec_capacity};
+ghost use Rattle.std.specs.Prelude.{◌≡◌, ◌<◌, [], Some, length, map, slice_get, IfSome, OnOk, vec_len, vec_capacity};
 ghost use Rattle.std.specs.VecDeque.{deque_len, deque_capacity};
 ghost use Rattle.std.proofs.Props.{props};
 ghost use Rattle.call_jobs.specs.Jobs.{asked_by, function_by};
 ghost use Rattle.sp_world.specs.RequestLines.{IsAskedForm};
+ghost use Rattle.plain_desk.specs.Hearing.{MayHearAt};
 ghost use Rattle.plain_desk.specs.Lost.{HasLost, KeepGone, AreGone};
-ghost use Rattle.plain_desk.specs.Slots.{AreBeside};
+ghost use Rattle.plain_desk.specs.Slots.{AreBeside, plain_names};
 
 use crate::posts::{Post, Posts, next_mail, post_gone};
 use crate::running::{Ran, forget_all, run_slots};
@@ -37,7 +38,9 @@ pub struct PlainDesk<'a, W: World, C: Child<W>, K: Clock> {
 }
 
 /// The place of a name among the plain connections.
-fn plain_place(connections: &[Connection], name: &Text) -> Option<usize> {
+fn plain_place(connections: &[Connection], name: &Text) -> Option<usize>
+    ensures { IfSome result (λ place. slice_get (plain_names connections.now) place ≡ Some name.now) }
+{
     let mut place: usize = 0;
     for connection in connections {
         if connection.aggregator {
@@ -60,6 +63,7 @@ fn wait_at<W: World, C: Child<W>>(
 ) -> Result<(), Job>
     requires within { at < length slots.old.items }
     requires form { IsAskedForm (function_by job) (asked_by job) }
+    requires may { MayHearAt W.tells W.book C.connection slots.old.items at job }
     ensures own { map (λ s. C.connection s.link.child) slots.new.items ≡ map (λ s. C.connection s.link.child) slots.old.items }
     ensures gone { KeepGone (HasLost W.tells W.book C.faulted C.gives) slots.old.items slots.new.items }
 {
@@ -76,7 +80,8 @@ fn submit_at<W: World, C: Child<W>>(
     place: usize,
     job: Job,
 ) -> Result<(), Job>
-    requires { IsAskedForm (function_by job) (asked_by job) }
+    requires form { IsAskedForm (function_by job) (asked_by job) }
+    requires may { MayHearAt W.tells W.book C.connection slots.old.items place job }
     ensures own { map (λ s. C.connection s.link.child) slots.new.items ≡ map (λ s. C.connection s.link.child) slots.old.items }
     ensures gone { KeepGone (HasLost W.tells W.book C.faulted C.gives) slots.old.items slots.new.items }
 {

@@ -1,4 +1,5 @@
 ghost use Rattle.std.specs.Prelude.{◌≡◌, ◌≤◌, ◌<◌, [], true, length, Some, Err, IfSome, OnOk, slice_get};
+ghost use Rattle.plain_desk.specs.Hearing.{IsLawfulSlot};
 ghost use Rattle.plain_desk.specs.Lost.{HasLost};
 ghost use Rattle.plain_desk.specs.Slots.{IsSlot, is_gone, is_running};
 ghost use Rattle.plain_desk.specs.declared.sending.Unsent.TheVariants as unsent;
@@ -54,7 +55,9 @@ fn has_room(flights: &[Flight], call: &Prepared) -> bool {
 /// Starts a child that isn't started.
 fn start_up<W: World, C: Child<W>>(alloc: Global, parts: &mut SlotParts<W, C>) -> Result<(), Unsent>
     requires slot { IsSlot (HasLost W.tells W.book C.faulted C.gives) parts.old }
+    requires lawful { IsLawfulSlot W.tells W.book C.connection C.log parts.old }
     ensures slot { IsSlot (HasLost W.tells W.book C.faulted C.gives) parts.new }
+    ensures lawful { IsLawfulSlot W.tells W.book C.connection C.log parts.new }
     ensures gone { result ≡ Err unsent.Lost → is_gone parts.new.stage ≡ true }
     ensures running { OnOk result (is_running parts.new.stage ≡ true) }
     ensures same { OnOk result ((parts.new.waiting ≡ parts.old.waiting) × (parts.new.tick ≡ parts.old.tick)) }
@@ -87,7 +90,9 @@ fn send_at<W: World, C: Child<W>>(
     requires due { (p : Prepared) → slice_get parts.old.waiting.items at ≡ Some p → p.job.due ≤ parts.old.tick }
     requires running { is_running parts.old.stage ≡ true }
     requires slot { IsSlot (HasLost W.tells W.book C.faulted C.gives) parts.old }
+    requires lawful { IsLawfulSlot W.tells W.book C.connection C.log parts.old }
     ensures slot { IsSlot (HasLost W.tells W.book C.faulted C.gives) parts.new }
+    ensures lawful { IsLawfulSlot W.tells W.book C.connection C.log parts.new }
     ensures gone { result ≡ Err unsent.Lost → is_gone parts.new.stage ≡ true }
     ensures own { C.connection parts.new.link.child ≡ C.connection parts.old.link.child }
 {
@@ -118,7 +123,9 @@ fn send_next<W: World, C: Child<W>>(
     parts: &mut SlotParts<W, C>,
 ) -> Result<bool, Unsent>
     requires slot { IsSlot (HasLost W.tells W.book C.faulted C.gives) parts.old }
+    requires lawful { IsLawfulSlot W.tells W.book C.connection C.log parts.old }
     ensures slot { IsSlot (HasLost W.tells W.book C.faulted C.gives) parts.new }
+    ensures lawful { IsLawfulSlot W.tells W.book C.connection C.log parts.new }
     ensures gone { result ≡ Err unsent.Lost → is_gone parts.new.stage ≡ true }
     ensures own { C.connection parts.new.link.child ≡ C.connection parts.old.link.child }
 {
@@ -139,7 +146,9 @@ pub(crate) fn send_due<W: World, C: Child<W>>(
     parts: &mut SlotParts<W, C>,
 ) -> Result<(), Unsent>
     requires slot { IsSlot (HasLost W.tells W.book C.faulted C.gives) parts.old }
+    requires lawful { IsLawfulSlot W.tells W.book C.connection C.log parts.old }
     ensures slot { IsSlot (HasLost W.tells W.book C.faulted C.gives) parts.new }
+    ensures lawful { IsLawfulSlot W.tells W.book C.connection C.log parts.new }
     ensures gone { result ≡ Err unsent.Lost → is_gone parts.new.stage ≡ true }
     ensures own { C.connection parts.new.link.child ≡ C.connection parts.old.link.child }
 {

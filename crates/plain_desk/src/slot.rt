@@ -1,6 +1,8 @@
-ghost use Rattle.std.specs.Prelude.{◌≡◌, ◌≤◌, ◌^◌, [], true, IfErr, IfOk};
+ghost use Rattle.std.specs.Prelude.{◌≡◌, ◌≤◌, ◌^◌, [], true, IsTrue, IfErr, IfOk};
 ghost use Rattle.call_jobs.specs.Jobs.{asked_by, function_by};
 ghost use Rattle.sp_world.specs.RequestLines.{IsAskedForm};
+ghost use Rattle.child_link.specs.Heard.{MayHear, HeardLawfully};
+ghost use Rattle.plain_desk.specs.Hearing.{IsLawfulSlot};
 ghost use Rattle.plain_desk.specs.Lost.{HasLost, IsGone, is_loss};
 ghost use Rattle.plain_desk.specs.Slots.{IsSlot, is_gone};
 
@@ -24,6 +26,7 @@ pub struct Slot<W: World, C: Child<W>> {
 impl<W: World, C: Child<W>> Model for Slot<W, C> {
     ghost use Rattle.std.specs.Coded.{codes};
     ghost use Rattle.sp_value.specs.contracts.cell.Cell as cells;
+    ghost use Rattle.plain_desk.specs.Hearing.{IsLawfulSlot};
     ghost use Rattle.plain_desk.specs.Lost.{HasLost};
     ghost use Rattle.plain_desk.specs.Slots.{IsSlot};
     ghost use Rattle.plain_desk.specs.declared.slot_parts.SlotParts.{SlotParts};
@@ -34,7 +37,7 @@ impl<W: World, C: Child<W>> Model for Slot<W, C> {
 
     ghost view = { λ s. s.parts };
 
-    ghost invariant = { λ s. IsSlot (HasLost W.tells W.book C.faulted C.gives) s.parts };
+    ghost invariant = { λ s. IsSlot (HasLost W.tells W.book C.faulted C.gives) s.parts × IsLawfulSlot W.tells W.book C.connection C.log s.parts };
 }
 
 /// Has a job wait.
@@ -44,8 +47,11 @@ fn wait_for<W: World, C: Child<W>>(
     job: Job,
 ) -> Result<(), Job>
     requires form { IsAskedForm (function_by job) (asked_by job) }
+    requires may { MayHear W.tells W.book (C.connection parts.old.link.child) (asked_by job) (function_by job) }
     requires slot { IsSlot (HasLost W.tells W.book C.faulted C.gives) parts.old }
+    requires lawful { IsLawfulSlot W.tells W.book C.connection C.log parts.old }
     ensures slot { IsSlot (HasLost W.tells W.book C.faulted C.gives) parts.new }
+    ensures lawful { IsLawfulSlot W.tells W.book C.connection C.log parts.new }
     ensures err { IfErr result (λ back. back ≡ job) }
     ensures same { (parts.new.stage ≡ parts.old.stage) × (parts.new.link.child ≡ parts.old.link.child) }
 {
@@ -64,15 +70,18 @@ fn wait_for<W: World, C: Child<W>>(
 /// Drops what waits.
 fn forget_all<W: World, C: Child<W>>(parts: &mut SlotParts<W, C>)
     requires slot { IsSlot (HasLost W.tells W.book C.faulted C.gives) parts.old }
+    requires lawful { IsLawfulSlot W.tells W.book C.connection C.log parts.old }
     ensures slot { IsSlot (HasLost W.tells W.book C.faulted C.gives) parts.new }
+    ensures lawful { IsLawfulSlot W.tells W.book C.connection C.log parts.new }
     ensures same { (parts.new.stage ≡ parts.old.stage) × (parts.new.link.child ≡ parts.old.link.child) }
 {
     parts.waiting.clear();
 }
 
 impl<W: World, C: Child<W>> Slot<W, C> {
-    /// The slot of a child that isn't started. The child is handed back for want of memory alone.
+    /// The slot of a child that isn't started, and that heard only lawful requests. It is handed back for want of memory alone.
     pub fn new(alloc: Global, child: C) -> Result<Slot<W, C>, C>
+        requires heard { IsTrue W.tells → HeardLawfully W.tells W.book (C.connection child) (C.log child) }
         ensures ok { IfOk result (λ s. s.link.child ≡ child) }
         ensures err { IfErr result (λ back. back ≡ child) }
     {
@@ -82,9 +91,10 @@ impl<W: World, C: Child<W>> Slot<W, C> {
         }
     }
 
-    /// The slot of a child that isn't started, with a gate that has granted nothing.
+    /// The slot of a child that isn't started, and that heard only lawful requests, with a gate that has granted nothing.
     pub fn over(alloc: Global, child: C, gate: Gate) -> Slot<W, C>
-        requires { gate.journal ≡ [] }
+        requires fresh { gate.journal ≡ [] }
+        requires heard { IsTrue W.tells → HeardLawfully W.tells W.book (C.connection child) (C.log child) }
         ensures { result.link.child ≡ child }
     {
         Slot {
@@ -99,10 +109,11 @@ impl<W: World, C: Child<W>> Slot<W, C> {
     }
 
     /// Its parts. Calls are open at a running child alone; each was due when it was sent, and has a grant of its own that is open. A child
-    /// that is gone was lost.
+    /// that is gone was lost. The child heard only lawful requests of its own connection, and only such wait for it.
     pub fn parts(&self) -> &SlotParts<W, C>
         ensures value { result.now ≡ self.now }
         ensures slot { IsSlot (HasLost W.tells W.book C.faulted C.gives) self.now }
+        ensures lawful { IsLawfulSlot W.tells W.book C.connection C.log self.now }
     {
         &self.parts
     }
@@ -110,6 +121,7 @@ impl<W: World, C: Child<W>> Slot<W, C> {
     /// Has a job wait. It is handed back for want of memory alone.
     pub(crate) fn submit(&mut self, alloc: Global, job: Job) -> Result<(), Job>
         requires form { IsAskedForm (function_by job) (asked_by job) }
+        requires may { MayHear W.tells W.book (C.connection self.old.link.child) (asked_by job) (function_by job) }
         ensures err { IfErr result (λ back. back ≡ job) }
         ensures own { C.connection self.new.link.child ≡ C.connection self.old.link.child }
         ensures gone { IsGone (HasLost W.tells W.book C.faulted C.gives) self.old → IsGone (HasLost W.tells W.book C.faulted C.gives) self.new }
@@ -153,7 +165,8 @@ impl<W: World, C: Child<W>> Slot<W, C> {
 
     /// The child. What is open or waits is dropped.
     pub fn into_child(self, alloc: Global) -> C
-        ensures { result ≡ self.link.child }
+        ensures child { result ≡ self.link.child }
+        ensures heard { IsTrue W.tells → HeardLawfully W.tells W.book (C.connection result) (C.log result) }
     {
         let Slot { parts } = self;
         let SlotParts {

@@ -1,4 +1,5 @@
 ghost use Rattle.std.specs.Prelude.{◌≡◌, ◌≢◌, ◌≤◌, ◌^◌, [], true};
+ghost use Rattle.plain_desk.specs.Hearing.{IsLawfulSlot};
 ghost use Rattle.plain_desk.specs.Lost.{HasLost, is_loss};
 ghost use Rattle.plain_desk.specs.Slots.{IsSlot, is_gone};
 
@@ -24,7 +25,9 @@ pub(crate) enum Stepped<W: World> {
 fn receive_one<W: World, C: Child<W>>(alloc: Global, parts: &mut SlotParts<W, C>) -> Stepped<W>
     requires some { parts.old.link.flights.items ≢ [] }
     requires slot { IsSlot (HasLost W.tells W.book C.faulted C.gives) parts.old }
+    requires lawful { IsLawfulSlot W.tells W.book C.connection C.log parts.old }
     ensures slot { IsSlot (HasLost W.tells W.book C.faulted C.gives) parts.new }
+    ensures lawful { IsLawfulSlot W.tells W.book C.connection C.log parts.new }
     ensures gone { is_loss result ≡ true → is_gone parts.new.stage ≡ true }
     ensures own { C.connection parts.new.link.child ≡ C.connection parts.old.link.child }
 {
@@ -56,7 +59,9 @@ pub(crate) fn step_slot<W: World, C: Child<W>>(
 ) -> Stepped<W>
     requires small { tick ≤ 2 ^ 62 }
     requires slot { IsSlot (HasLost W.tells W.book C.faulted C.gives) parts.old }
+    requires lawful { IsLawfulSlot W.tells W.book C.connection C.log parts.old }
     ensures slot { IsSlot (HasLost W.tells W.book C.faulted C.gives) parts.new }
+    ensures lawful { IsLawfulSlot W.tells W.book C.connection C.log parts.new }
     ensures gone { is_loss result ≡ true → is_gone parts.new.stage ≡ true }
     ensures own { C.connection parts.new.link.child ≡ C.connection parts.old.link.child }
 {

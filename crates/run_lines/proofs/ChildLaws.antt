@@ -1,13 +1,17 @@
 -- Children in the order of their connections.
-use Rattle.std.proofs.Common.{◌≡◌, ℕ, zero, suc, ◌+◌, ◌<◌, inl, inr, Bool, true, false, cond, List, [], ◌∷◌, ◌++◌, length, map, take, get_or, Some, None, refl, sym, ap, ◌∙◌, arith}
-use Rattle.std.specs.Prelude.{not, slice_get, bytes_eq}
-use Rattle.std.proofs.lemmas.List.{append-nil, length-map, map-append, take_all, take_more}
+use Rattle.std.proofs.Common.{◌≡◌, ℕ, zero, suc, ◌+◌, ◌<◌, inl, inr, Bool, true, false, cond, List, [], ◌∷◌, ◌++◌, length, map, take, get_or, Some, None, refl, sym, subst, ap, ◌∙◌, arith}
+use Rattle.std.specs.Prelude.{not, slice_get, bytes_eq, drop, IsTrue}
+use Rattle.std.specs.List.{AllByRecursion}
+use Rattle.std.proofs.lemmas.List.{append-nil, append_assoc, length-map, map-append, take_all, take_more}
 use Rattle.sp_model.specs.declared.settings.Connection.{Connection}
 use Rattle.sql_bind.proofs.Declared.{split}
 use Rattle.sql_bind.specs.Known.{Known, nothing_declared, declared_for, declaration_of}
 use Rattle.sp_model.specs.declared.declaration.Declaration.{Declaration}
 use Rattle.sp_model.specs.declared.settings.Settings.{Settings}
-use Rattle.run_lines.specs.Blocks.{with_child}
+use Rattle.sp_outside.specs.declared.child.Child.{Ghosts as Child}
+use Rattle.sp_world.specs.declared.world.World.{Ghosts as World}
+use Rattle.child_link.specs.Heard.{HeardLawfully}
+use Rattle.run_lines.specs.Blocks.{with_child, AllHeardLawfully}
 
 abbrev pub names : List Connection → List (List ℕ)
 names cs = map (λ (c : Connection). c.name) cs
@@ -109,3 +113,40 @@ pub none_declared : (settings : Settings) (known : Known) → known ≡ nothing_
 none_declared settings known same name d found =
     let none : declaration_of known name ≡ None = ap (λ (k : Known). declaration_of k name) same ∙ nowhere settings.connections name in
     cc
+
+-- ---- what children heard
+
+module _ {Kid W : Type 0} (kid : Child Kid W) (world : World W) where
+  abbrev IsLawful : Kid → Type 0
+  IsLawful child = HeardLawfully world.tells world.book (kid.connection child) (kid.log child)
+
+  -- those that came back since heard only lawful requests
+  pub record CameLawfully (back back_after : List Kid) : Type 0 where
+    pub children : List Kid
+    pub after : back_after ≡ back ++ children
+    pub heard : IsTrue world.tells → AllByRecursion IsLawful children
+
+  pub none_came : (back : List Kid) → CameLawfully back back
+  none_came back = record { children = []; after = sym (append-nil back); heard = λ tells. tt }
+
+  one_came : (children : List Kid) (child : Kid) → AllByRecursion IsLawful children → IsLawful child → AllByRecursion IsLawful (children ++ child ∷ [])
+  one_came [] child all h = (h, tt)
+  one_came (k ∷ ks) child all h = (all.0, one_came ks child all.1 h)
+
+  pub one_came_back : (back between : List Kid) (child : Kid) (after : List Kid) → CameLawfully back between → after ≡ between ++ child ∷ [] → (IsTrue world.tells → IsLawful child) → CameLawfully back after
+  one_came_back back between child after came is lawful = record {
+    children = came.children ++ child ∷ [];
+    after = is ∙ ap (λ ks. ks ++ child ∷ []) came.after ∙ append_assoc back came.children (child ∷ []);
+    heard = λ tells. one_came came.children child (came.heard tells) (lawful tells);
+  }
+
+  same_rest : (back xs ys : List Kid) → back ++ xs ≡ back ++ ys → xs ≡ ys
+  same_rest [] xs ys e = e
+  same_rest (k ∷ ks) xs ys e = same_rest ks xs ys (ap (drop 1) e)
+
+  pub came_all : (back after children : List Kid) → CameLawfully back after → after ≡ back ++ children → AllHeardLawfully kid world children
+  came_all back after children came is = λ tells. subst (λ ks. AllByRecursion IsLawful ks) (same_rest back came.children children (sym came.after ∙ is)) (came.heard tells)
+
+  -- a child of which nothing happened
+  pub nothing_heard : (child : Kid) → kid.log child ≡ [] → IsLawful child
+  nothing_heard child none = subst (HeardLawfully world.tells world.book (kid.connection child)) (sym none) tt

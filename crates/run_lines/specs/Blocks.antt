@@ -1,9 +1,14 @@
 -- The answers to the lines of an input.
-use Rattle.std.specs.Prelude.{◌≡◌, ℕ, ◌+◌, ◌≤◌, not, List, [], ◌∷◌, ◌++◌, length, map, filter, take, slice_get, Some}
+use Rattle.std.specs.Prelude.{◌≡◌, ℕ, ◌+◌, ◌≤◌, not, List, [], ◌∷◌, ◌++◌, length, map, filter, take, slice_get, Some, IsTrue}
+use Rattle.std.specs.List.{AllByRecursion}
 use Rattle.sp_model.specs.Book.{Book}
+use Rattle.sp_model.specs.Sayable.{KeepsForms}
 use Rattle.sp_model.specs.declared.settings.Connection.{Connection}
 use Rattle.sp_model.specs.declared.settings.Options.{Options}
 use Rattle.sp_model.specs.declared.settings.Settings.{Settings}
+use Rattle.sp_outside.specs.declared.child.Child.{Ghosts as Child}
+use Rattle.sp_world.specs.declared.world.World.{Ghosts as World}
+use Rattle.child_link.specs.Heard.{HeardLawfully}
 use Rattle.input_lines.specs.declared.line.Line.{Line}
 use Rattle.input_lines.specs.declared.line.Line.TheVariants.{Statement, ClearCache, BadForm}
 use Rattle.statement_words.specs.Advances.{AreTrue}
@@ -62,26 +67,29 @@ with_child connections = filter (λ c. not c.aggregator) connections
 
 -- the child of the connection of a name was lost once more than the restart budget; its losses are counted, by its faults and the lines
 -- that it gave, and where the children tell and are honest by its faults alone
-pub record HasLostChild {Kid : Type 0} (faulted gives : Kid → ℕ) (IsToldHonestly : Type 0) (budget : ℕ) (connections : List Connection) (children : List Kid)
-    (name : List ℕ) (losses : ℕ) : Type 0 where
+pub record HasLostChild {Kid W : Type 0} (kid : Child Kid W) (world : World W) (budget : ℕ) (connections : List Connection) (children : List Kid) (name : List ℕ) (losses : ℕ) : Type 0 where
   pub place : ℕ
   pub connection : Connection
   pub child : Kid
   pub named : (slice_get connections place ≡ Some connection) × (connection.name ≡ name)
   pub beside : slice_get children place ≡ Some child
   pub spent : losses ≡ budget + 1
-  pub counted : losses ≤ faulted child + gives child
-  pub by_faults : IsToldHonestly → losses ≤ faulted child
+  pub counted : losses ≤ kid.faulted child + kid.gives child
+  pub by_faults : IsTrue world.tells → KeepsForms world.book → losses ≤ kid.faulted child
 
--- these children came back, those of the first connections, in their order
-pub record CameBack {Kid : Type 0} (own : Kid → List ℕ) (connections : List Connection) (back back_after children : List Kid) : Type 0 where
+-- where these children tell, each heard only lawful requests of its own connection
+abbrev pub AllHeardLawfully : {Kid W : Type 0} → Child Kid W → World W → List Kid → Type 0
+AllHeardLawfully kid world children = IsTrue world.tells → AllByRecursion (λ child. HeardLawfully world.tells world.book (kid.connection child) (kid.log child)) children
+
+-- these children came back, those of the first connections, in their order, and heard only lawful requests
+pub record CameBack {Kid W : Type 0} (kid : Child Kid W) (world : World W) (connections : List Connection) (back back_after children : List Kid) : Type 0 where
   pub after : back_after ≡ back ++ children
-  pub of_first : map own children ≡ map (λ c. c.name) (take (length children) connections)
+  pub of_first : map kid.connection children ≡ map (λ c. c.name) (take (length children) connections)
+  pub heard : AllHeardLawfully kid world children
 
--- so did those of all connections, and each spent restart budget has its lost child among them
-pub record AreOver {Kid : Type 0} (faulted gives : Kid → ℕ) (own : Kid → List ℕ) (IsToldHonestly : Type 0) (budget : ℕ) (connections : List Connection) (back back_after : List Kid)
-    (blocks : List Block) : Type 0 where
+-- the children of all connections came back, and each spent restart budget has its lost child among them
+pub record AreOver {Kid W : Type 0} (kid : Child Kid W) (world : World W) (budget : ℕ) (connections : List Connection) (back back_after : List Kid) (blocks : List Block) : Type 0 where
   pub children : List Kid
   pub after : back_after ≡ back ++ children
-  pub of_all : map own children ≡ map (λ c. c.name) connections
-  pub lost : AllSpent (HasLostChild faulted gives IsToldHonestly budget connections children) blocks
+  pub of_all : map kid.connection children ≡ map (λ c. c.name) connections
+  pub lost : AllSpent (HasLostChild kid world budget connections children) blocks

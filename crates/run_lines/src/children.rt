@@ -1,7 +1,7 @@
 // The children of connections.
 
 ghost use Rattle.std.specs.Prelude.{◌≡◌, ◌+◌, ◌≤◌, ◌++◌, [], ◌∷◌, length, map, take, false, vec_len, vec_capacity, OnOk, OnErr};
-ghost use Rattle.run_lines.specs.Blocks.{with_child};
+ghost use Rattle.run_lines.specs.Blocks.{with_child, AllHeardLawfully};
 
 use plain_desk::Slot;
 use rate_gate::Gate;
@@ -62,6 +62,7 @@ pub(crate) fn give_back<W: World, M: Nursery<W>>(
 )
     requires { length (M.back nursery.old) + length slots.items ≤ M.made nursery.old }
     ensures back { M.back nursery.new ≡ M.back nursery.old ++ map (λ s. s.link.child) slots.items }
+    ensures heard { AllHeardLawfully M.Kid.Child W.World (map (λ s. s.link.child) slots.items) }
     ensures made { M.made nursery.new ≡ M.made nursery.old }
 {
     let mut slots = slots;

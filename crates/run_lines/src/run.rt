@@ -2,7 +2,6 @@
 
 ghost use Rattle.std.specs.Prelude.{◌≡◌, ◌^◌, ℕ, List, length, map, IsTrue, IfOk, OnOk};
 ghost use Rattle.scan_run.specs.Asked.{SubsetKeysFilter};
-ghost use Rattle.sp_model.specs.Sayable.{KeepsForms};
 ghost use Rattle.statement_words.specs.Turns.{AreInTurn};
 ghost use Rattle.statement_run.specs.Settings.{CanRun};
 ghost use Rattle.run_lines.specs.Blocks.{AreAnswers, AreByText, AreTrulyNoted, AllSpent, HasLostChild, CameBack, AreOver, with_child, block_ticks};
@@ -48,7 +47,7 @@ fn run_over<R: Wait, W: World, C: Child<W>, K: Clock>(
     ensures notes { IsTrue W.tells → IfOk result.blocks (AreTrulyNoted W.book settings.now.options) }
     ensures turns { IfOk result.blocks (λ blocks. AreInTurn 0 (2 ^ 62) (block_ticks lines.now blocks)) }
     ensures own { map (λ s. C.connection s.link.child) result.slots.items ≡ map (λ c. c.name) (with_child settings.now.connections) }
-    ensures lost { IfOk result.blocks (AllSpent (HasLostChild C.faulted C.gives (IsTrue W.tells × KeepsForms W.book) 0 (with_child settings.now.connections) (map (λ s. s.link.child) result.slots.items))) }
+    ensures lost { IfOk result.blocks (AllSpent (HasLostChild C.Child W.World 0 (with_child settings.now.connections) (map (λ s. s.link.child) result.slots.items))) }
 {
     let Ok(own) = settings.copy(alloc) else {
         return Over {
@@ -97,9 +96,9 @@ fn run_counted<R: Wait, W: World, M: Nursery<W>, K: Clock>(
     ensures text { IfOk result.blocks (AreByText settings.now lines.now) }
     ensures notes { IsTrue W.tells → IfOk result.blocks (AreTrulyNoted W.book settings.now.options) }
     ensures turns { IfOk result.blocks (λ blocks. AreInTurn 0 (2 ^ 62) (block_ticks lines.now blocks)) }
-    ensures over { IfOk result.blocks (AreOver M.Kid.faulted M.Kid.gives M.Kid.connection (IsTrue W.tells × KeepsForms W.book) 0 (with_child settings.now.connections) (M.back nursery.old) (M.back nursery.new)) }
-    ensures calls { OnOk result.blocks (AreCounted M.Kid.sends (M.back nursery.old) (M.back nursery.new) result.calls) }
-    ensures children { (children : List M.Kid) × CameBack M.Kid.connection (with_child settings.now.connections) (M.back nursery.old) (M.back nursery.new) children }
+    ensures over { IfOk result.blocks (AreOver M.Kid.Child W.World 0 (with_child settings.now.connections) (M.back nursery.old) (M.back nursery.new)) }
+    ensures calls { OnOk result.blocks (AreCounted M.Kid.Child (M.back nursery.old) (M.back nursery.new) result.calls) }
+    ensures children { (children : List M.Kid) × CameBack M.Kid.Child W.World (with_child settings.now.connections) (M.back nursery.old) (M.back nursery.new) children }
     ensures back { length (M.back nursery.new) ≡ M.made nursery.new }
 {
     let mut slots = Vec::new(alloc);
@@ -135,9 +134,9 @@ pub fn run_lines<R: Wait, W: World, M: Nursery<W>, K: Clock>(
     ensures text { IfOk result (λ ran. AreByText settings.now lines.now ran.blocks) }
     ensures notes { IsTrue W.tells → IfOk result (λ ran. AreTrulyNoted W.book settings.now.options ran.blocks) }
     ensures turns { IfOk result (λ ran. AreInTurn 0 (2 ^ 62) (block_ticks lines.now ran.blocks)) }
-    ensures over { IfOk result (λ ran. AreOver M.Kid.faulted M.Kid.gives M.Kid.connection (IsTrue W.tells × KeepsForms W.book) 0 (with_child settings.now.connections) (M.back nursery.old) (M.back nursery.new) ran.blocks) }
-    ensures calls { IfOk result (λ ran. AreCounted M.Kid.sends (M.back nursery.old) (M.back nursery.new) ran.calls) }
-    ensures children { (children : List M.Kid) × CameBack M.Kid.connection (with_child settings.now.connections) (M.back nursery.old) (M.back nursery.new) children }
+    ensures over { IfOk result (λ ran. AreOver M.Kid.Child W.World 0 (with_child settings.now.connections) (M.back nursery.old) (M.back nursery.new) ran.blocks) }
+    ensures calls { IfOk result (λ ran. AreCounted M.Kid.Child (M.back nursery.old) (M.back nursery.new) ran.calls) }
+    ensures children { (children : List M.Kid) × CameBack M.Kid.Child W.World (with_child settings.now.connections) (M.back nursery.old) (M.back nursery.new) children }
     ensures back { length (M.back nursery.new) ≡ M.made nursery.new }
 {
     let Counted { blocks, calls } = run_counted::<R, W, M, K>(

@@ -6,6 +6,8 @@ use Rattle.answer_text.specs.declared.answer.Form.{Form}
 use Rattle.load_gen.specs.Summary.{load_settings}
 use Rattle.run_lines.specs.declared.block.Block.{Block}
 use Rattle.sp_outside.specs.Files.{FileTold}
+use Rattle.sp_outside.specs.declared.child.Child.{Ghosts as Child}
+use Rattle.sp_world.specs.declared.world.World.{Ghosts as World}
 use Rattle.run_lines.specs.Blocks.{CameBack, with_child}
 use Rattle.steampipe_top.specs.Running.{IfAnswered, AsksToLoad, AreReturned, blocks_status, any_memory, all_rows}
 use Rattle.steampipe_top.specs.Loading.{load_text, IsLoadWritten}
@@ -43,7 +45,7 @@ if_answered ReadFault S P Q f h = tt
 if_answered InputLimit S P Q f h = tt
 
 -- the children of a load came back by the settings that its words name
-pub came_by_load : {K : Type 0} (own : K → List ℕ) (words : List (List ℕ)) (files : List ℕ → FileTold) (back back_after : List K) (count : ℕ) (form : Form) → AsksToLoad words count form
-    → (back_after ≡ back) ⊎ ((children : List K) × CameBack own (with_child load_settings.connections) back back_after children) → AreReturned own words files back back_after
-came_by_load own words files back back_after count form asks (inl same) = inl same
-came_by_load own words files back back_after count form asks (inr came) = inr (load_settings, inr (count, form, asks, refl), came)
+pub came_by_load : {K W : Type 0} (kid : Child K W) (world : World W) (words : List (List ℕ)) (files : List ℕ → FileTold) (back back_after : List K) (count : ℕ) (form : Form) → AsksToLoad words count form
+    → (back_after ≡ back) ⊎ ((children : List K) × CameBack kid world (with_child load_settings.connections) back back_after children) → AreReturned kid world words files back back_after
+came_by_load kid world words files back back_after count form asks (inl same) = inl same
+came_by_load kid world words files back back_after count form asks (inr came) = inr (load_settings, inr (count, form, asks, refl), came)

@@ -1,9 +1,9 @@
 -- What a load of generated rows answers and writes.
-use Rattle.std.specs.Prelude.{◌≡◌, ℕ, Bool, IsTrue, List, [], ◌∷◌, Option, Some, None}
+use Rattle.std.specs.Prelude.{◌≡◌, ℕ, IsTrue, List, [], ◌∷◌, Option, Some, None}
 use Rattle.std.specs.Io.KnownBytes.{Appends}
 use Rattle.sp_value.specs.declared.cell.Cell.{Cell}
-use Rattle.sp_model.specs.Book.{Book}
-use Rattle.sp_model.specs.Sayable.{KeepsForms}
+use Rattle.sp_outside.specs.declared.child.Child.{Ghosts as Child}
+use Rattle.sp_world.specs.declared.world.World.{Ghosts as World}
 use Rattle.sp_outside.specs.Writing.{GrewByPrefix}
 use Rattle.input_lines.specs.declared.line.Line.{Line}
 use Rattle.input_lines.specs.declared.line.Line.TheVariants.{Statement}
@@ -48,14 +48,13 @@ IsLoadWritten form status blocks calls held held_after = (status ≡ blocks_stat
 
 -- a load of so many rows ran: the answer to its statement is the defined one, where the children tell and their subset keys only filter; the
 -- child of its one connection came back, and the calls are those that it was sent; the text was written
-pub record HasLoaded {Kid : Type 0} (faulted gives sends : Kid → ℕ) (own : Kid → List ℕ) (tells : Bool) (book : Book) (count : ℕ) (form : Form) (status : Status)
-    (held held_after : Option (List ℕ)) (back back_after : List Kid) : Type 0 where
+pub record HasLoaded {Kid W : Type 0} (kid : Child Kid W) (world : World W) (count : ℕ) (form : Form) (status : Status) (held held_after : Option (List ℕ)) (back back_after : List Kid) : Type 0 where
   pub blocks : List Block
   pub calls : ℕ
-  pub defined : IsTrue tells → SubsetKeysFilter book → AreAnswers book load_settings (load_line count ∷ []) blocks
+  pub defined : IsTrue world.tells → SubsetKeysFilter world.book → AreAnswers world.book load_settings (load_line count ∷ []) blocks
   pub text : AreByText load_settings (load_line count ∷ []) blocks
-  pub over : AreOver faulted gives own (IsTrue tells × KeepsForms book) 0 (with_child load_settings.connections) back back_after blocks
-  pub counted : AreCounted sends back back_after calls
+  pub over : AreOver kid world 0 (with_child load_settings.connections) back back_after blocks
+  pub counted : AreCounted kid back back_after calls
   pub written : IsLoadWritten form status blocks calls held held_after
 
 -- the words ask for a load, of so many rows and in a form of which this holds

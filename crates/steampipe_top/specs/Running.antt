@@ -2,9 +2,9 @@
 use Rattle.std.specs.Prelude.{◌≡◌, ◌⊎◌, ◌^◌, ℕ, List, codes, Bool, true, false, IsTrue, Option, Some, None, if◌then◌else◌}
 use Rattle.std.specs.List.{list_any, list_all}
 use Rattle.std.specs.Io.KnownBytes.{Appends}
-use Rattle.sp_model.specs.Book.{Book}
-use Rattle.sp_model.specs.Sayable.{KeepsForms}
 use Rattle.sp_model.specs.declared.settings.Settings.{Settings}
+use Rattle.sp_outside.specs.declared.child.Child.{Ghosts as Child}
+use Rattle.sp_world.specs.declared.world.World.{Ghosts as World}
 use Rattle.sp_outside.specs.Causes.{Rose}
 use Rattle.sp_outside.specs.Files.{FileTold}
 use Rattle.sp_outside.specs.Writing.{GrewByPrefix}
@@ -137,16 +137,15 @@ pub record Outside (Kid : Type 0) : Type 0 where
 -- an input was answered by settings: its whole was read; the answers are the defined ones, where the children tell and their subset keys only
 -- filter, and the notes are true; the ticks at which statements began and scans were noted never fall; the children of all plain connections
 -- came back in their order, each spent restart budget has its lost child among them; the texts of the answers and of their notes were written
-pub record HasAnswered {Kid : Type 0} (faulted gives : Kid → ℕ) (own : Kid → List ℕ) (tells : Bool) (book : Book) (settings : Settings) (form : Form) (status : Status)
-    (before after : Outside Kid) : Type 0 where
+pub record HasAnswered {Kid W : Type 0} (kid : Child Kid W) (world : World W) (settings : Settings) (form : Form) (status : Status) (before after : Outside Kid) : Type 0 where
   pub input : List ℕ
   pub read : IsInput before.left after.left input
   pub blocks : List Block
-  pub defined : IsTrue tells → SubsetKeysFilter book → AreAnswers book settings (lines_to_answer input) blocks
-  pub noted : IsTrue tells → AreTrulyNoted book settings.options blocks
+  pub defined : IsTrue world.tells → SubsetKeysFilter world.book → AreAnswers world.book settings (lines_to_answer input) blocks
+  pub noted : IsTrue world.tells → AreTrulyNoted world.book settings.options blocks
   pub text : AreByText settings (lines_to_answer input) blocks
   pub turns : AreInTurn 0 (2 ^ 62) (block_ticks (lines_to_answer input) blocks)
-  pub over : AreOver faulted gives own (IsTrue tells × KeepsForms book) 0 (with_child settings.connections) before.back after.back blocks
+  pub over : AreOver kid world 0 (with_child settings.connections) before.back after.back blocks
   pub written : IsWritten form status blocks before.held after.held before.notes after.notes
 
 -- the words ask for answers by a file, whose settings these are, in a form
@@ -159,10 +158,11 @@ pub record AreNamed (words : List (List ℕ)) (files : List ℕ → FileTold) (s
 abbrev pub AnswersBy : List (List ℕ) → (List ℕ → FileTold) → Settings → Type 0
 AnswersBy words files settings = ((form : Form) × AreNamed words files settings form) ⊎ ((count : ℕ) × (form : Form) × AsksToLoad words count form × (settings ≡ load_settings))
 
--- no child came back; or those of the first plain connections of the settings by which the words ask for answers, in their order
-abbrev pub AreReturned : {Kid : Type 0} → (Kid → List ℕ) → List (List ℕ) → (List ℕ → FileTold) → List Kid → List Kid → Type 0
-AreReturned {Kid} own words files back back_after =
-    (back_after ≡ back) ⊎ ((settings : Settings) × AnswersBy words files settings × ((children : List Kid) × CameBack own (with_child settings.connections) back back_after children))
+-- no child came back; or those of the first plain connections of the settings by which the words ask for answers, in their order, and where
+-- children tell, each heard only lawful requests of its own connection
+abbrev pub AreReturned : {Kid W : Type 0} → Child Kid W → World W → List (List ℕ) → (List ℕ → FileTold) → List Kid → List Kid → Type 0
+AreReturned {Kid} kid world words files back back_after =
+    (back_after ≡ back) ⊎ ((settings : Settings) × AnswersBy words files settings × ((children : List Kid) × CameBack kid world (with_child settings.connections) back back_after children))
 
 -- the words name a file whose settings are refused, by a line of which this holds
 pub record AreNone (words : List (List ℕ)) (files : List ℕ → FileTold) (faults faults_after : ℕ) (P : List ℕ → Type 0) : Type 0 where
@@ -174,9 +174,8 @@ pub record AreNone (words : List (List ℕ)) (files : List ℕ → FileTold) (fa
   pub line : P (refusal_line (codes "settings") why)
 
 -- a run answered its input, by the settings that its words name
-pub record HasRun {Kid : Type 0} (faulted gives : Kid → ℕ) (own : Kid → List ℕ) (tells : Bool) (book : Book) (words : List (List ℕ))
-    (files : List ℕ → FileTold) (status : Status) (before after : Outside Kid) : Type 0 where
+pub record HasRun {Kid W : Type 0} (kid : Child Kid W) (world : World W) (words : List (List ℕ)) (files : List ℕ → FileTold) (status : Status) (before after : Outside Kid) : Type 0 where
   pub settings : Settings
   pub form : Form
   pub named : AreNamed words files settings form
-  pub answered : HasAnswered faulted gives own tells book settings form status before after
+  pub answered : HasAnswered kid world settings form status before after

@@ -15,7 +15,7 @@ use crate::reading::{FileEnd, InputEnd, all_settings_of, declaration_of, lines_o
 use crate::status::Status;
 use crate::writing::refuse;
 use explain_text::{Block, blocks_text, declared_alike, explain_lines};
-use sp_outside::{Shelf, Sink, Source, write_all};
+use sp_outside::{ByteSource, Shelf, Sink, write_all};
 use sp_value::{Memory, Text};
 use sql_bind::Catalog;
 use std::alloc::Global;
@@ -75,7 +75,7 @@ fn write_explanation<O: Sink>(alloc: Global, blocks: &[Block], answers: &mut O) 
 }
 
 /// Reads an input and explains its lines.
-fn explain_input<I: Source, O: Sink, N: Sink>(
+fn explain_input<I: ByteSource, O: Sink, N: Sink>(
     alloc: Global,
     catalog: &Catalog,
     input: &mut I,
@@ -133,7 +133,7 @@ fn catalog_of<F: Shelf>(
 ///
 /// The input has at most 1,048,576 bytes and 10,000 lines. Sessions are passed over. A run that is refused writes one line to the notes and
 /// nothing to the answers, every other run nothing to the notes.
-pub fn explain<I: Source, F: Shelf, O: Sink, N: Sink>(
+pub fn explain<I: ByteSource, F: Shelf, O: Sink, N: Sink>(
     alloc: Global,
     settings: &Text,
     declaration: &Text,

@@ -103,11 +103,11 @@ pub(crate) fn load<R: Wait, W: World, O: Sink, M: Nursery<W>, K: Clock>(
     clock: &K,
 ) -> Status
     requires all_back { length (M.back nursery.old) ≡ M.made nursery.old }
-    ensures loaded { IfAnswered result (O.held answers.new ≡ O.held answers.old) (HasLoaded M.Kid.faulted M.Kid.gives M.Kid.sends M.Kid.connection W.tells W.book count form result (O.held answers.old) (O.held answers.new) (M.back nursery.old) (M.back nursery.new)) }
+    ensures loaded { IfAnswered result (O.held answers.new ≡ O.held answers.old) (HasLoaded M.Kid.Child W.World count form result (O.held answers.old) (O.held answers.new) (M.back nursery.old) (M.back nursery.new)) }
     ensures ends { IfRefused result (λ _. ⊥) }
     ensures later { IsPastFiles result }
     ensures cause { result ≡ Status.WriteFault → Rose (O.faulted answers.old) (O.faulted answers.new) }
-    ensures children { (M.back nursery.new ≡ M.back nursery.old) ⊎ ((children : List M.Kid) × CameBack M.Kid.connection (with_child load_settings.connections) (M.back nursery.old) (M.back nursery.new) children) }
+    ensures children { (M.back nursery.new ≡ M.back nursery.old) ⊎ ((children : List M.Kid) × CameBack M.Kid.Child W.World (with_child load_settings.connections) (M.back nursery.old) (M.back nursery.new) children) }
     ensures back { length (M.back nursery.new) ≡ M.made nursery.new }
 {
     let Ok(settings) = load_settings(alloc) else {

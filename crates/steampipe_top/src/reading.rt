@@ -16,7 +16,7 @@ use input_lines::{Line, LinesFault, read_lines};
 use serde_json::Value;
 use settings_text::{read_all_settings, read_settings};
 use sp_model::{Declaration, Settings};
-use sp_outside::{ReadEnd, Shelf, ShelfEnd, Source, read_to_limit};
+use sp_outside::{ByteSource, ReadEnd, Shelf, ShelfEnd, read_to_limit};
 use sp_value::Text;
 use sqlite_items::Items;
 use std::alloc::Global;
@@ -159,7 +159,7 @@ pub(crate) fn declaration_of<F: Shelf>(
 }
 
 /// The lines of the whole input.
-pub(crate) fn lines_of<I: Source>(alloc: Global, input: &mut I) -> Result<Items<Line>, InputEnd>
+pub(crate) fn lines_of<I: ByteSource>(alloc: Global, input: &mut I) -> Result<Items<Line>, InputEnd>
     ensures ok { IfOk result (λ lines. (text : List ℕ) × IsInput (I.left input.old) (I.left input.new) text × (lines ≡ lines_to_answer text)) }
     ensures end { IfErr result (IsInputEnd (I.left input.old) (I.left input.new) (I.faulted input.old) (I.faulted input.new)) }
 {

@@ -17,7 +17,7 @@ use crate::writing::{refuse, write_blocks};
 use answer_text::Form;
 use run_lines::run_lines;
 use sp_model::Settings;
-use sp_outside::{Clock, Nursery, Shelf, Sink, Source};
+use sp_outside::{ByteSource, Clock, Nursery, Shelf, Sink};
 use sp_value::{Memory, Text};
 use sp_world::World;
 use std::alloc::Global;
@@ -27,7 +27,7 @@ const USAGE: &[u8] =
     b"usage: steampipe [--output line|csv|json|table] query SETTINGS, explain SETTINGS DECLARATION, load NUMBER\n";
 
 /// Reads and answers an input by settings, and writes the answers and then the notes.
-fn run<R: Wait, W: World, I: Source, O: Sink, N: Sink, M: Nursery<W>, K: Clock>(
+fn run<R: Wait, W: World, I: ByteSource, O: Sink, N: Sink, M: Nursery<W>, K: Clock>(
     rt: &R,
     alloc: Global,
     settings: &Settings,
@@ -40,13 +40,13 @@ fn run<R: Wait, W: World, I: Source, O: Sink, N: Sink, M: Nursery<W>, K: Clock>(
 ) -> Status
     requires all_back { length (M.back nursery.old) ≡ M.made nursery.old }
     requires can_run { CanRun settings.now }
-    ensures answered { IfAnswered result ((O.held answers.new ≡ O.held answers.old) × (N.held notes.new ≡ N.held notes.old)) (HasAnswered M.Kid.faulted M.Kid.gives M.Kid.connection W.tells W.book settings.now form result (record { left = I.left input.old; held = O.held answers.old; notes = N.held notes.old; back = M.back nursery.old }) (record { left = I.left input.new; held = O.held answers.new; notes = N.held notes.new; back = M.back nursery.new })) }
+    ensures answered { IfAnswered result ((O.held answers.new ≡ O.held answers.old) × (N.held notes.new ≡ N.held notes.old)) (HasAnswered M.Kid.Child W.World settings.now form result (record { left = I.left input.old; held = O.held answers.old; notes = N.held notes.old; back = M.back nursery.old }) (record { left = I.left input.new; held = O.held answers.new; notes = N.held notes.new; back = M.back nursery.new })) }
     ensures read_fault { result ≡ Status.ReadFault → Rose (I.faulted input.old) (I.faulted input.new) }
     ensures input_limit { result ≡ Status.InputLimit → IsOverLimit (I.left input.old) (I.left input.new) }
     ensures write_fault { result ≡ Status.WriteFault → Rose (O.faulted answers.old) (O.faulted answers.new) ⊎ Rose (N.faulted notes.old) (N.faulted notes.new) }
     ensures refused { IfRefused result (λ line. (O.held answers.new ≡ O.held answers.old) × IsNoted (N.faulted notes.old) (N.faulted notes.new) (N.held notes.old) (N.held notes.new) line) }
     ensures later { IsPastFiles result }
-    ensures children { (children : List M.Kid) × CameBack M.Kid.connection (with_child settings.now.connections) (M.back nursery.old) (M.back nursery.new) children }
+    ensures children { (children : List M.Kid) × CameBack M.Kid.Child W.World (with_child settings.now.connections) (M.back nursery.old) (M.back nursery.new) children }
     ensures back { length (M.back nursery.new) ≡ M.made nursery.new }
 {
     let lines = match lines_of(alloc, input) {
@@ -71,7 +71,7 @@ fn run<R: Wait, W: World, I: Source, O: Sink, N: Sink, M: Nursery<W>, K: Clock>(
 pub fn steampipe<
     R: Wait,
     W: World,
-    I: Source,
+    I: ByteSource,
     F: Shelf,
     O: Sink,
     N: Sink,
@@ -89,7 +89,7 @@ pub fn steampipe<
     clock: &K,
 ) -> Status
     requires all_back { length (M.back nursery.old) ≡ M.made nursery.old }
-    ensures answered { IfAnswered result ((O.held answers.new ≡ O.held answers.old) × (N.held notes.new ≡ N.held notes.old)) (HasRun M.Kid.faulted M.Kid.gives M.Kid.connection W.tells W.book words.now (F.file files.old) result (record { left = I.left input.old; held = O.held answers.old; notes = N.held notes.old; back = M.back nursery.old }) (record { left = I.left input.new; held = O.held answers.new; notes = N.held notes.new; back = M.back nursery.new }) ⊎ IsToExplain words.now (λ file second. HasExplainedBy (F.file files.old) file second result (I.left input.old) (I.left input.new) (O.held answers.old) (O.held answers.new) (N.held notes.old) (N.held notes.new)) ⊎ IsToLoad words.now (λ count form. HasLoaded M.Kid.faulted M.Kid.gives M.Kid.sends M.Kid.connection W.tells W.book count form result (O.held answers.old) (O.held answers.new) (M.back nursery.old) (M.back nursery.new) × (N.held notes.new ≡ N.held notes.old) × (I.left input.new ≡ I.left input.old))) }
+    ensures answered { IfAnswered result ((O.held answers.new ≡ O.held answers.old) × (N.held notes.new ≡ N.held notes.old)) (HasRun M.Kid.Child W.World words.now (F.file files.old) result (record { left = I.left input.old; held = O.held answers.old; notes = N.held notes.old; back = M.back nursery.old }) (record { left = I.left input.new; held = O.held answers.new; notes = N.held notes.new; back = M.back nursery.new }) ⊎ IsToExplain words.now (λ file second. HasExplainedBy (F.file files.old) file second result (I.left input.old) (I.left input.new) (O.held answers.old) (O.held answers.new) (N.held notes.old) (N.held notes.new)) ⊎ IsToLoad words.now (λ count form. HasLoaded M.Kid.Child W.World count form result (O.held answers.old) (O.held answers.new) (M.back nursery.old) (M.back nursery.new) × (N.held notes.new ≡ N.held notes.old) × (I.left input.new ≡ I.left input.old))) }
     ensures usage { MatchOption (words_of words.now) ((result ≡ Status.Usage) ⊎ (result ≡ Status.Memory)) (λ _. result ≢ Status.Usage) }
     ensures settings { result ≡ Status.Settings → AreNone words.now (F.file files.old) (F.faulted files.old) (F.faulted files.new) (λ line. (O.held answers.new ≡ O.held answers.old) × IsNoted (N.faulted notes.old) (N.faulted notes.new) (N.held notes.old) (N.held notes.new) line) ⊎ IsToExplain words.now (λ file second. (line : List ℕ) × IsRefusedBy (F.file files.old) file second (F.faulted files.old) (F.faulted files.new) line × ((O.held answers.new ≡ O.held answers.old) × IsNoted (N.faulted notes.old) (N.faulted notes.new) (N.held notes.old) (N.held notes.new) line)) }
     ensures file_fault { result ≡ Status.FileFault → Rose (F.faulted files.old) (F.faulted files.new) }
@@ -97,7 +97,7 @@ pub fn steampipe<
     ensures input_limit { result ≡ Status.InputLimit → IsReady words.now (F.file files.old) × IsOverLimit (I.left input.old) (I.left input.new) }
     ensures write_fault { result ≡ Status.WriteFault → Rose (O.faulted answers.old) (O.faulted answers.new) ⊎ Rose (N.faulted notes.old) (N.faulted notes.new) }
     ensures refused { IfRefused result (λ line. (O.held answers.new ≡ O.held answers.old) × IsNoted (N.faulted notes.old) (N.faulted notes.new) (N.held notes.old) (N.held notes.new) line) }
-    ensures children { AreReturned M.Kid.connection words.now (F.file files.old) (M.back nursery.old) (M.back nursery.new) }
+    ensures children { AreReturned M.Kid.Child W.World words.now (F.file files.old) (M.back nursery.old) (M.back nursery.new) }
     ensures back { length (M.back nursery.new) ≡ M.made nursery.new }
 {
     match read_task(alloc, words) {

@@ -1,4 +1,5 @@
 use Rattle.std.proofs.Common.{[], sym, ap, ◌∙◌, subst}
+use Rattle.child_link.specs.Arrived.{GrewByGiven}
 use Rattle.child_link.specs.Open.{calls_of, ahead}
 use Rattle.child_link.specs.Ledger.{Moves}
 use Rattle.child_link.proofs.Given.{settle_moves, no_misfit}
@@ -30,3 +31,6 @@ returns-in-Ok-clause-honest g c = λ tells keeps.
 
 pub returns-in-Ok-clause-looked : goal.returns-in-Ok-clause-looked
 returns-in-Ok-clause-looked g c = looked_then c.settle.result _ _ _ c.fill.ensures.looked c.settle.ensures.looked
+
+pub returns-in-Ok-clause-log : goal.returns-in-Ok-clause-log
+returns-in-Ok-clause-log g c = λ tells. subst (λ k. GrewByGiven (g.C.Child.log c.args.parts.now.child) (g.C.Child.log k)) (sym c.settle.ensures.child) (c.fill.ensures.log tells)

@@ -1,4 +1,5 @@
 use Rattle.std.proofs.Common.{rules}
+use Rattle.plain_desk.proofs.Hearing.{sent_lawfully}
 use Rattle.plain_desk.proofs.Losses.{lost_by_failing}
 use Rattle.plain_desk.proofs.Slots.{sent, due_at, granted}
 use Rattle.plain_desk.proofs.sending.send_at.Goals as goal
@@ -28,3 +29,13 @@ returns-in-Ok-send-clause-slot g c =
       stands = search rules;
       gone = search rules;
     }
+
+pub lose-requires-clause-lawful : goal.lose-requires-clause-lawful
+lose-requires-clause-lawful g c =
+    sent_lawfully g.W.World.tells g.W.World.book g.C.Child.connection g.C.Child.log c.args.parts.now _ c.args.at c.remove-call.result c.send.result (g.C.Child.sends c.send.new.self.child)
+    c.send.ensures.own.0 c.send.ensures.log c.requires.within c.remove-call.ensures.value c.remove-call.ensures.items c.requires.lawful
+
+pub returns-in-Ok-send-clause-lawful : goal.returns-in-Ok-send-clause-lawful
+returns-in-Ok-send-clause-lawful g c =
+    sent_lawfully g.W.World.tells g.W.World.book g.C.Child.connection g.C.Child.log c.args.parts.now _ c.args.at c.remove-call.result c.send.result (g.C.Child.sends c.send.new.self.child)
+    c.send.ensures.own.0 c.send.ensures.log c.requires.within c.remove-call.ensures.value c.remove-call.ensures.items c.requires.lawful

@@ -1,5 +1,6 @@
-use Rattle.std.proofs.Common.{sym, subst, rules}
+use Rattle.std.proofs.Common.{refl, sym, subst, rules}
 use Rattle.plain_desk.specs.Slots.{Keeps}
+use Rattle.plain_desk.proofs.Hearing.{received_lawfully}
 use Rattle.plain_desk.proofs.Losses.{lost_by_receiving}
 use Rattle.plain_desk.proofs.Slots.{arrived}
 use Rattle.plain_desk.proofs.stepping.receive_one.Goals as goal
@@ -24,3 +25,12 @@ returns-in-Ok-clause-slot g c =
       stands = search rules;
       gone = search rules;
     }
+
+pub lose-requires-clause-lawful : goal.lose-requires-clause-lawful
+lose-requires-clause-lawful g c = received_lawfully g.W.World.tells g.W.World.book g.C.Child.connection g.C.Child.log c.args.parts.now _ c.receive.ensures.own.0 c.receive.ensures.log refl c.requires.lawful
+
+pub returns-in-Ok-clause-lawful : goal.returns-in-Ok-clause-lawful
+returns-in-Ok-clause-lawful g c = received_lawfully g.W.World.tells g.W.World.book g.C.Child.connection g.C.Child.log c.args.parts.now _ c.receive.ensures.own.0 c.receive.ensures.log refl c.requires.lawful
+
+pub returns-in-Err-Memory-clause-lawful : goal.returns-in-Err-Memory-clause-lawful
+returns-in-Err-Memory-clause-lawful g c = received_lawfully g.W.World.tells g.W.World.book g.C.Child.connection g.C.Child.log c.args.parts.now _ c.receive.ensures.own.0 c.receive.ensures.log refl c.requires.lawful

@@ -14,6 +14,7 @@ returns-in_default-clause-children g c =
       record {
         after = c.give_back.ensures.back ∙ ap (λ b. b ++ children) c.make_all.ensures.back;
         of_first = first_children (λ s. s.link.child) g.M.Kid.Child.connection slots c.args.settings.now.connections c.as_slice-connections.result.now c.as_slice-connections.ensures c.make_all.ensures.names;
+        heard = c.give_back.ensures.heard;
       },
     )
 
@@ -56,6 +57,7 @@ returns-clause-children g c =
       record {
         after = c.give_back-2.ensures.back ∙ ap (λ b. b ++ children) c.make_all.ensures.back;
         of_first = all_children (λ s. s.link.child) g.M.Kid.Child.connection slots c.args.settings.now.connections c.run_over-blocks.ensures.own;
+        heard = c.give_back-2.ensures.heard;
       },
     )
 

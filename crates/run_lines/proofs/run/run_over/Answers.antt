@@ -31,7 +31,7 @@ pub returns-clause-lost : goal.returns-clause-lost
 returns-clause-lost g c =
     let slots = c.into_slots.result.items in
     ok_maps c.answer_lines-blocks.result _ _
-    (λ blocks spent. all_lost g.W.World.tells g.W.World.book g.C.Child.faulted g.C.Child.gives _ c.args.settings.now slots blocks
+    (λ blocks spent. all_lost g.C.Child g.W.World _ c.args.settings.now slots blocks
     (c.answer_lines-blocks.ensures.state.settings ∙ c.over-desk.ensures.settings ∙ c.in-Ok.ensures) c.into_slots.ensures.gone spent)
     c.answer_lines-blocks.ensures.spent
 

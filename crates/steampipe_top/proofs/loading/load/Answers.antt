@@ -1,8 +1,7 @@
-use Rattle.std.proofs.Common.{◌≡◌, List, [], ◌∷◌, IsTrue, sym, subst, ◌∙◌}
+use Rattle.std.proofs.Common.{◌≡◌, List, [], ◌∷◌, sym, subst, ◌∙◌}
 use Rattle.input_lines.specs.declared.line.Line.{Line}
 use Rattle.load_gen.specs.Summary.{load_settings}
 use Rattle.run_lines.specs.Blocks.{AreAnswers, AreByText, AreOver, with_child}
-use Rattle.sp_model.specs.Sayable.{KeepsForms}
 use Rattle.sp_model.specs.declared.settings.Settings.{Settings}
 use Rattle.steampipe_top.proofs.Loads.{if_answered}
 use Rattle.steampipe_top.specs.Loading.{load_line}
@@ -23,7 +22,7 @@ returns-in-Ok-run_lines-clause-loaded g c =
           (subst (λ (s : Settings). AreAnswers book s c.as_slice.result.now blocks) is (c.in-Ok-run_lines.ensures.told tells only));
       text = subst (λ (ls : List Line). AreByText load_settings ls blocks) lines (subst (λ (s : Settings). AreByText s c.as_slice.result.now blocks) is c.in-Ok-run_lines.ensures.text);
       over = subst
-          (λ (s : Settings). AreOver g.M.Kid.Child.faulted g.M.Kid.Child.gives g.M.Kid.Child.connection (IsTrue g.W.World.tells × KeepsForms book) 0 (with_child s.connections) (g.M.Nursery.back c.args.nursery.now)
+          (λ (s : Settings). AreOver g.M.Kid.Child g.W.World 0 (with_child s.connections) (g.M.Nursery.back c.args.nursery.now)
           (g.M.Nursery.back c.run_lines.new.nursery) blocks)
           is c.in-Ok-run_lines.ensures.over;
       counted = c.in-Ok-run_lines.ensures.calls;
